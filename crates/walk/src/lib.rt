@@ -1,6 +1,5 @@
 // What a walk is: a numbered list of rows, in an order in which it can be stepped through, searched and read.
 pub mod answers;
-mod rows;
 
 ghost use mathlib.Core.Path.{_≡_};
 ghost use mathlib.Core.Bool.{Bool};

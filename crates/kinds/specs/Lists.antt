@@ -1,0 +1,32 @@
+-- The lists of rows of the kinds, as their rules state them. Assumes nothing.
+use mathlib.Core.Bool.{Bool, cond}
+use mathlib.Core.List.{List, [], _∷_, _++_, map, reverse}
+use Prim.Native.Nat.{ℕ, zero, suc, _%_}
+use lib.Dec.{eqb}
+use Rattle.walk.specs.Rows.{Row}
+
+-- the value v before each of the rows
+abbrev pub led-by : ℕ → List Row → List Row
+led-by v rows = map (λ (r : Row). v ∷ r) rows
+
+-- for each first value v below m, in order, v before the rows of f v
+abbrev pub branches : ℕ → (ℕ → List Row) → List Row
+branches zero f = []
+branches (suc m) f = branches m f ++ led-by m (f m)
+
+-- the rows backward or as they are
+abbrev pub turned : Bool → List Row → List Row
+turned back rows = cond back (reverse rows) rows
+
+abbrev pub odd : ℕ → Bool
+odd v = eqb (v % 2) 1
+
+-- `digits`: every row with each value below its radix, the first value slowest
+abbrev pub digits : List ℕ → List Row
+digits [] = [] ∷ []
+digits (radix ∷ radices) = branches radix (λ v. digits radices)
+
+-- `gray`: after an even first value the rows of the remaining radices forward, after an odd one backward
+abbrev pub gray : List ℕ → List Row
+gray [] = [] ∷ []
+gray (radix ∷ radices) = branches radix (λ v. turned (odd v) (gray radices))

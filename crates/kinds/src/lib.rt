@@ -1,0 +1,2 @@
+// The kinds of walk that are made from numbers.
+pub mod fault;
