@@ -1,3 +1,4 @@
 pub mod Faults
 pub mod Lists
 pub mod Laws
+pub mod Tree
