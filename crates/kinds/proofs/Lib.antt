@@ -1,1 +1,4 @@
+pub mod Branches
+pub mod Digits
+pub mod Gray
 pub mod Stretches

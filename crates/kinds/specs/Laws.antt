@@ -14,6 +14,10 @@ Listed rows r = (i : ℕ) × (i < length rows) × (row-at rows i ≡ r)
 abbrev pub Under : List ℕ → Row → Type 0
 Under radices r = (length r ≡ length radices) × ((k : ℕ) → k < length radices → getD r k 0 < getD radices k 0)
 
+-- no two rows are the same
+abbrev pub Apart : List Row → Type 0
+Apart rows = (i j : ℕ) → i < length rows → j < length rows → row-at rows i ≡ row-at rows j → i ≡ j
+
 -- lexicographic order: the first value weighs most
 abbrev pub Precedes : Row → Row → Type 0
 Precedes [] ys = ⊥

@@ -1,7 +1,7 @@
 -- The lists of rows of the kinds, as their rules state them. Assumes nothing.
 use mathlib.Core.Bool.{Bool, cond}
 use mathlib.Core.List.{List, [], _∷_, _++_, map, reverse}
-use Prim.Native.Nat.{ℕ, zero, suc, _%_}
+use Prim.Native.Nat.{ℕ, zero, suc, _*_, _%_}
 use lib.Dec.{eqb}
 use Rattle.walk.specs.Rows.{Row}
 
@@ -20,6 +20,11 @@ turned back rows = cond back (reverse rows) rows
 
 abbrev pub odd : ℕ → Bool
 odd v = eqb (v % 2) 1
+
+-- the number of rows with each value below its radix
+abbrev pub product : List ℕ → ℕ
+product [] = 1
+product (radix ∷ radices) = radix * product radices
 
 -- `digits`: every row with each value below its radix, the first value slowest
 abbrev pub digits : List ℕ → List Row
