@@ -1,4 +1,6 @@
 pub mod Branches
 pub mod Digits
+pub mod Entering
 pub mod Gray
+pub mod MixedRadix
 pub mod Stretches

@@ -1,4 +1,5 @@
 pub mod Faults
-pub mod Lists
 pub mod Laws
+pub mod Lists
+pub mod Shapes
 pub mod Tree

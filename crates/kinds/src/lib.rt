@@ -1,4 +1,6 @@
 // The kinds of walk that are made from numbers.
 pub mod fault;
+mod radix;
+mod shape;
 mod stretch;
 mod tree;
