@@ -3,4 +3,5 @@ pub mod Digits
 pub mod Entering
 pub mod Gray
 pub mod MixedRadix
+pub mod ShapeLaws
 pub mod Stretches

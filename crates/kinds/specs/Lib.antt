@@ -1,4 +1,5 @@
 pub mod Faults
+pub mod Kinds
 pub mod Laws
 pub mod Lists
 pub mod Shapes

@@ -19,7 +19,18 @@ pub struct RadixNode<'a> {
     ghost few: { product (radices (now levels)) ≤ 4294967295 },
 }
 
-impl Node for RadixNode<'_> as RadixNodeTree {
+impl<'a> RadixNode<'a> {
+    // The node above all rows of the levels.
+    pub fn new(levels: &'a [Level], reflected: bool) -> RadixNode<'a>
+        requires hold { ⌜ levels-hold (now levels) ≡ true ⌝ }
+        requires few { ⌜ product (radices (now levels)) ≤ 4294967295 ⌝ }
+        ensures { λ r. ⌜ (now (r .levels) ≡ now (levels .entry)) × (r .reflected ≡ reflected) ⌝ }
+    {
+        RadixNode { levels, reflected }
+    }
+}
+
+pub impl Node for RadixNode<'_> as RadixNodeTree {
     ghost below = { λ n. mixed (n .reflected) (radices (now (n .levels))) };
 
     ghost depth = { λ n. length (now (n .levels)) };

@@ -1,0 +1,1 @@
+// Makes the kinds from the numbers of a plan.
