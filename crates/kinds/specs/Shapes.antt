@@ -16,6 +16,11 @@ use Rattle.kinds.specs.declared.shape.Shape.the-variants.{Digits, Gray}
 abbrev pub radices : List Level → List ℕ
 radices levels = map (λ (l : Level). l .radix) levels
 
+-- each radix with the number of rows of the radices after it
+abbrev pub levels-of : List ℕ → List Level
+levels-of [] = []
+levels-of (r ∷ rs) = record { radix = r; below = product rs } ∷ levels-of rs
+
 -- the rows of mixed radices: after an odd first value backward where they are reflected
 abbrev pub mixed : Bool → List ℕ → List Row
 mixed reflected rs = cond reflected (gray rs) (digits rs)
