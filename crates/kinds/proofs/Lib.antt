@@ -2,6 +2,7 @@ pub mod Branches
 pub mod Digits
 pub mod Entering
 pub mod Gray
+pub mod Made
 pub mod MixedRadix
 pub mod Radices
 pub mod ShapeLaws

@@ -1,14 +1,13 @@
 // Makes the kinds from the numbers of a plan.
 ghost use mathlib.Core.Path.{_≡_};
 ghost use mathlib.Core.Bool.{true};
-ghost use Prim.Native.Nat.{_≤_};
 ghost use Rattle.std.specs.Of.Vec.{vec-items};
 ghost use Rattle.std.specs.Vec.{made};
 ghost use Rattle.kinds.specs.Kinds.{kind-meaning, all-between, radices-fit, digits-made, gray-made, Makes};
 ghost use Rattle.kinds.specs.Laws.{Digits-laws, Gray-laws};
 ghost use Rattle.kinds.specs.Lists.{product};
 ghost use Rattle.kinds.specs.Shapes.{levels-of};
-ghost use Rattle.kinds.specs.Counts.{counted};
+ghost use Rattle.kinds.specs.Counts.{counted, Tabled};
 use super::super::fault::MakingFault;
 use super::super::fault::MakingFaultFromAlloc;
 use super::super::fault::MakingFaultFromRefused;
@@ -65,4 +64,48 @@ fn levels(heap: Global, radices: &[u16], size: u32) -> Result<Vec<Level>, AllocE
         })?;
     }
     Ok(levels)
+}
+
+// The levels of n radices and the number of their rows, or why no walk is made of them.
+fn table(heap: Global, n: u16, list: &[u16]) -> Result<(Vec<Level>, u32), MakingFault>
+    ensures { λ r. ⌜ Tabled n (now (list .entry)) r ⌝ }
+{
+    if !radices_fit(n, list) {
+        return Err(MakingFault::OutOfRange);
+    }
+    let Some(size) = count_rows(list) else {
+        return Err(MakingFault::TooManyRows);
+    };
+    let levels = levels(heap, list, size)?;
+    Ok((levels, size))
+}
+
+impl Kind {
+    // `digits`: every row with each value below its radix, in rising order.
+    pub fn digits(heap: Global, n: u16, list: &[u16]) -> Result<Kind, MakingFault>
+        ensures made { λ r. ⌜ Makes kind-meaning r (digits-made n (now (list .entry))) ⌝ }
+        ensures laws { λ r. ⌜ made r (λ k. Digits-laws (now (list .entry)) (kind-meaning k .rows)) ⌝ }
+    {
+        let (levels, size) = table(heap, n, list)?;
+        Ok(Kind {
+            width: levels.len(),
+            shape: Shape::Digits(levels),
+            size,
+            place: 0,
+        })
+    }
+
+    // `gray`: the same rows, in an order in which neighbours differ in one place.
+    pub fn gray(heap: Global, n: u16, list: &[u16]) -> Result<Kind, MakingFault>
+        ensures made { λ r. ⌜ Makes kind-meaning r (gray-made n (now (list .entry))) ⌝ }
+        ensures laws { λ r. ⌜ made r (λ k. Gray-laws (now (list .entry)) (kind-meaning k .rows)) ⌝ }
+    {
+        let (levels, size) = table(heap, n, list)?;
+        Ok(Kind {
+            width: levels.len(),
+            shape: Shape::Gray(levels),
+            size,
+            place: 0,
+        })
+    }
 }

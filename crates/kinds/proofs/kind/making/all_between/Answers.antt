@@ -14,9 +14,9 @@ returns-then-x-low c =
     let list = c .args .list .now in
     let i = c .loop-x .x-index in
     sym (
-      sym (c .loop-x .inv) ∙ at-drop-more (all-between (c .args .low) (c .args .high)) list i 0 (c .loop-x-test .taken)
-      ∙ outside (c .args .low) (c .args .high) _ (drop (i + 1) list)
-        (elim (c .then-x-low .came) [ then-x-low·by·then-x-low w ↦ inl (w .if-x-low .taken) | then-x-low·by·else-x-low·then-x-high w ↦ inr (w .if-x-low .left, w .if-x-high .taken) ])
+    sym (c .loop-x .inv) ∙ at-drop-more (all-between (c .args .low) (c .args .high)) list i 0 (c .loop-x-test .taken)
+    ∙ outside (c .args .low) (c .args .high) _ (drop (i + 1) list)
+    (elim (c .then-x-low .came) [ then-x-low·by·then-x-low w ↦ inl (w .if-x-low .taken) | then-x-low·by·else-x-low·then-x-high w ↦ inr (w .if-x-low .left, w .if-x-high .taken) ])
     )
 
 pub loop-x-again : need.loop-x-again

@@ -21,11 +21,10 @@ loop-radix-again c =
     let radices = c .args .radices .now in
     let i = c .loop-radix .radix-index in
     let rest = ap₂ _/_ (c .loop-radix .inv .0) (c .from-below .ensures) ∙ rest-more radices i (c .loop-radix-test .taken) (c .pre .fit) in
-    let pushed = chosen _ _ _ _ (c .push .ensures .items) (ap isOk (c .in-Continue-push .was tt)) in
-    (
+    let pushed = chosen _ _ _ _ (c .push .ensures .items) (ap isOk (c .in-Continue-push .was tt)) in (
       rest,
       ap (λ ls. ls ++ levels-of (drop (i + 1) radices)) (pushed ∙ ap (λ n. c .loop-radix .levels .items ++ (record { radix = lib.ListN.getD radices i 0; below = n } ∷ [])) rest)
-      ∙ levels-more radices i (c .loop-radix-test .taken) _ (c .loop-radix .inv .1),
+          ∙ levels-more radices i (c .loop-radix-test .taken) _ (c .loop-radix .inv .1),
     )
 
 pub returns : need.returns
