@@ -16,11 +16,12 @@ use Rattle.std.proofs.shelf.Tests.{and-parts, and-from, leb-true, le-leb, lt-le
 use Rattle.walk.specs.Rows.{Row}
 use Rattle.walk.specs.Meaning.{Meaning}
 use Rattle.kinds.specs.Counts.{Tabled}
-use Rattle.kinds.specs.Kinds.{new-walk, making, all-between, radices-fit, Makes}
+use Rattle.walk.specs.Making.{new-walk, Makes}
+use Rattle.kinds.specs.Kinds.{making, all-between, radices-fit}
 use Rattle.kinds.specs.Lists.{product}
 use Rattle.kinds.specs.Shapes.{radices, mixed, levels-of, levels-hold}
-use Rattle.kinds.specs.declared.fault.MakingFault.{MakingFault}
-use Rattle.kinds.specs.declared.fault.MakingFault.the-variants.{OutOfRange, TooManyRows, NoMemory}
+use Rattle.walk.specs.declared.making.MakingFault.{MakingFault}
+use Rattle.walk.specs.declared.making.MakingFault.the-variants.{OutOfRange, TooManyRows, NoMemory}
 use Rattle.kinds.specs.declared.shape.Level.{Level}
 use Rattle.kinds.proofs.MixedRadix.{mixed-length}
 use Rattle.kinds.proofs.Radices.{radices-of-levels, length-levels, levels-of-hold}

@@ -14,8 +14,8 @@ use Rattle.std.specs.declared.vec.Vec.{Vec}
 use Rattle.kinds.specs.Kinds.{radices-fit}
 use Rattle.kinds.specs.Lists.{product}
 use Rattle.kinds.specs.Shapes.{levels-of}
-use Rattle.kinds.specs.declared.fault.MakingFault.{MakingFault}
-use Rattle.kinds.specs.declared.fault.MakingFault.the-variants.{OutOfRange, TooManyRows, NoMemory}
+use Rattle.walk.specs.declared.making.MakingFault.{MakingFault}
+use Rattle.walk.specs.declared.making.MakingFault.the-variants.{OutOfRange, TooManyRows, NoMemory}
 use Rattle.kinds.specs.declared.shape.Level.{Level}
 
 -- a number of rows, if a walk may have as many

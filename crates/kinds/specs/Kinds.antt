@@ -1,27 +1,22 @@
 -- What a kind means as a walk, and what making one gives. Assumes nothing.
-use mathlib.Core.Path.{_≡_}
 use mathlib.Core.Bool.{Bool, true, false, cond, _&&_}
 use mathlib.Core.List.{List, [], _∷_}
 use Prim.Native.Nat.{ℕ}
 use lib.Dec.{eqb, leb}
 use lib.ListN.{length}
-use Rattle.std.specs.Results.{isOk}
 use Rattle.std.specs.declared.result.Result.{Result}
 use Rattle.std.specs.declared.result.Result.the-variants.{Ok, Err}
 use Rattle.walk.specs.Rows.{Row}
 use Rattle.walk.specs.Meaning.{Meaning}
+use Rattle.walk.specs.Making.{new-walk}
 use Rattle.kinds.specs.Lists.{digits, gray}
 use Rattle.kinds.specs.Shapes.{rows-of, width-of, steady-of}
-use Rattle.kinds.specs.declared.fault.MakingFault.{MakingFault}
-use Rattle.kinds.specs.declared.fault.MakingFault.the-variants.{OutOfRange, TooManyRows, NoMemory}
+use Rattle.walk.specs.declared.making.MakingFault.{MakingFault}
+use Rattle.walk.specs.declared.making.MakingFault.the-variants.{OutOfRange, TooManyRows}
 use Rattle.kinds.specs.declared.kind.Kind.{Kind}
 
 abbrev pub kind-meaning : Kind → Meaning
 kind-meaning k = record { rows = rows-of (k .shape); width = width-of (k .shape); place = k .place; steady = steady-of (k .shape) }
-
--- a walk as made stands at 0
-abbrev pub new-walk : List Row → ℕ → Bool → Meaning
-new-walk rows width steady = record { rows = rows; width = width; place = 0; steady = steady }
 
 -- Making refuses numbers that do not fit their ranges, and then more rows than a walk may have.
 abbrev pub making : Bool → List Row → ℕ → Bool → Result Meaning MakingFault
@@ -40,10 +35,3 @@ digits-made n list = making (radices-fit n list) (digits list) n false
 
 abbrev pub gray-made : ℕ → List ℕ → Result Meaning MakingFault
 gray-made n list = making (radices-fit n list) (gray list) n true
-
--- A maker answers the walk that making gives, or the fault; it wants for memory only where a walk is given.
-abbrev pub Makes : {K : Type 0} → (K → Meaning) → Result K MakingFault → Result Meaning MakingFault → Type 0
-Makes meaning (Ok k) given = given ≡ Ok (meaning k)
-Makes meaning (Err OutOfRange) given = given ≡ Err OutOfRange
-Makes meaning (Err TooManyRows) given = given ≡ Err TooManyRows
-Makes meaning (Err NoMemory) given = isOk given ≡ true

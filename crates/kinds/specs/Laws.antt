@@ -4,19 +4,12 @@ use mathlib.Core.Logic.{_⊎_}
 use mathlib.Core.List.{List, [], _∷_}
 use Prim.Native.Nat.{ℕ, _+_, _<_}
 use lib.ListN.{length, getD}
-use Rattle.walk.specs.Rows.{Row, row-at, differences}
-
--- the row stands at some label
-abbrev pub Listed : List Row → Row → Type 0
-Listed rows r = (i : ℕ) × (i < length rows) × (row-at rows i ≡ r)
+use Rattle.walk.specs.Rows.{Row, row-at}
+pub use Rattle.walk.specs.Rows.{Listed, Apart, Stepping}
 
 -- one value for each radix, and below it
 abbrev pub Under : List ℕ → Row → Type 0
 Under radices r = (length r ≡ length radices) × ((k : ℕ) → k < length radices → getD r k 0 < getD radices k 0)
-
--- no two rows are the same
-abbrev pub Apart : List Row → Type 0
-Apart rows = (i j : ℕ) → i < length rows → j < length rows → row-at rows i ≡ row-at rows j → i ≡ j
 
 -- lexicographic order: the first value weighs most
 abbrev pub Precedes : Row → Row → Type 0
@@ -27,10 +20,6 @@ Precedes (x ∷ xs) (y ∷ ys) = (x < y) ⊎ ((x ≡ y) × Precedes xs ys)
 -- each row precedes all later ones
 abbrev pub Rising : List Row → Type 0
 Rising rows = (i j : ℕ) → i < j → j < length rows → Precedes (row-at rows i) (row-at rows j)
-
--- neighbouring rows differ in just n places
-abbrev pub Stepping : ℕ → List Row → Type 0
-Stepping n rows = (i : ℕ) → i + 1 < length rows → differences (row-at rows i) (row-at rows (i + 1)) ≡ n
 
 -- `digits` has just the rows with each value below its radix, and they rise
 pub record Digits-laws (radices : List ℕ) (rows : List Row) : Type 0 where

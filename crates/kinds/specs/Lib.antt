@@ -1,5 +1,4 @@
 pub mod Counts
-pub mod Faults
 pub mod Kinds
 pub mod Laws
 pub mod Lists

@@ -1,5 +1,4 @@
 // The kinds of walk that are made from numbers.
-pub mod fault;
 pub mod kind;
 mod labels;
 mod radix;

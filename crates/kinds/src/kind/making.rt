@@ -3,19 +3,20 @@ ghost use mathlib.Core.Path.{_≡_};
 ghost use mathlib.Core.Bool.{true};
 ghost use Rattle.std.specs.Of.Vec.{vec-items};
 ghost use Rattle.std.specs.Vec.{made};
-ghost use Rattle.kinds.specs.Kinds.{kind-meaning, all-between, radices-fit, digits-made, gray-made, Makes};
+ghost use Rattle.kinds.specs.Kinds.{kind-meaning, all-between, radices-fit, digits-made, gray-made};
+ghost use Rattle.walk.specs.Making.{Makes};
 ghost use Rattle.kinds.specs.Laws.{Digits-laws, Gray-laws};
 ghost use Rattle.kinds.specs.Lists.{product};
 ghost use Rattle.kinds.specs.Shapes.{levels-of};
 ghost use Rattle.kinds.specs.Counts.{counted, Tabled};
-use super::super::fault::MakingFault;
-use super::super::fault::MakingFaultFromAlloc;
-use super::super::fault::MakingFaultFromRefused;
 use super::super::shape::Level;
 use super::super::shape::Shape;
 use super::Kind;
 use std::alloc::AllocError;
 use std::alloc::Global;
+use walk::making::MakingFault;
+use walk::making::MakingFaultFromAlloc;
+use walk::making::MakingFaultFromRefused;
 
 // Whether every number of the list is from `low` to `high`.
 fn all_between(low: u16, high: u16, list: &[u16]) -> bool
