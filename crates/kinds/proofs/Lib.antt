@@ -1,4 +1,7 @@
 pub mod Branches
+pub mod Just
 pub mod Digits
 pub mod Gray
+pub mod Stock
+pub mod Door
 pub mod Stretches

@@ -2,8 +2,10 @@
 use mathlib.Core.Path.{_≡_}
 use mathlib.Core.Logic.{_⊎_}
 use mathlib.Core.List.{List, [], _∷_}
-use Prim.Native.Nat.{ℕ, _+_, _<_}
-use lib.ListN.{length, getD}
+use Prim.Native.Nat.{ℕ, _+_, _≤_, _<_}
+use lib.Dec.{eqb}
+use lib.ListN.{length, getD, replicate}
+use Rattle.std.specs.shelf.Lists.{sum, countBy, exchanged}
 use Rattle.walk.specs.Rows.{Row, row-at, differences}
 
 -- the row stands at some label
@@ -13,6 +15,26 @@ Listed rows r = (i : ℕ) × (i < length rows) × (row-at rows i ≡ r)
 -- one value for each radix, and below it
 abbrev pub Under : List ℕ → Row → Type 0
 Under radices r = (length r ≡ length radices) × ((k : ℕ) → k < length radices → getD r k 0 < getD radices k 0)
+
+-- how often a value occurs in a row
+abbrev pub occurrences : ℕ → Row → ℕ
+occurrences v r = countBy (λ x. eqb x v) r
+
+-- one value for each stock, and at most it, and the sum t
+abbrev pub Within : List ℕ → ℕ → Row → Type 0
+Within stocks t r = (length r ≡ length stocks) × ((k : ℕ) → k < length stocks → getD r k 0 ≤ getD stocks k 0) × (sum r ≡ t)
+
+-- n values, each 0 or 1, and just t of them 1
+abbrev pub Chosen : ℕ → ℕ → Row → Type 0
+Chosen n t r = (length r ≡ n) × ((k : ℕ) → k < n → getD r k 0 ≤ 1) × (occurrences 1 r ≡ t)
+
+-- as many values as the counts say together, and each as often as its count says
+abbrev pub Spells : List ℕ → Row → Type 0
+Spells counts r = (length r ≡ sum counts) × ((k : ℕ) → k < length r → getD r k 0 < length counts) × ((v : ℕ) → v < length counts → occurrences v r ≡ getD counts v 0)
+
+-- n values, all below n, and each just once
+abbrev pub Permutation : ℕ → Row → Type 0
+Permutation n r = (length r ≡ n) × ((k : ℕ) → k < n → getD r k 0 < n) × ((v : ℕ) → v < n → occurrences v r ≡ 1)
 
 -- no two rows are the same
 abbrev pub Apart : List Row → Type 0
@@ -42,4 +64,46 @@ pub record Digits-laws (radices : List ℕ) (rows : List Row) : Type 0 where
 pub record Gray-laws (radices : List ℕ) (rows : List Row) : Type 0 where
   pub sound : (r : Row) → Listed rows r → Under radices r
   pub complete : (r : Row) → Under radices r → Listed rows r
+  pub apart : Apart rows
   pub stepping : Stepping 1 rows
+
+-- `stock` has just the rows within the stocks with the sum t, and they rise
+pub record Stock-laws (stocks : List ℕ) (t : ℕ) (rows : List Row) : Type 0 where
+  pub sound : (r : Row) → Listed rows r → Within stocks t r
+  pub complete : (r : Row) → Within stocks t r → Listed rows r
+  pub rising : Rising rows
+
+-- `choose` has just the rows of n values of which t are 1, and they rise
+pub record Choose-laws (n t : ℕ) (rows : List Row) : Type 0 where
+  pub sound : (r : Row) → Listed rows r → Chosen n t r
+  pub complete : (r : Row) → Chosen n t r → Listed rows r
+  pub rising : Rising rows
+
+-- `door` has the same rows, and neighbours differ in two places
+pub record Door-laws (n t : ℕ) (rows : List Row) : Type 0 where
+  pub sound : (r : Row) → Listed rows r → Chosen n t r
+  pub complete : (r : Row) → Chosen n t r → Listed rows r
+  pub apart : Apart rows
+  pub stepping : Stepping 2 rows
+  pub zeros : t ≡ 0 → rows ≡ replicate n 0 ∷ []
+  pub ones : t ≡ n → rows ≡ replicate n 1 ∷ []
+  pub none : n < t → rows ≡ []
+
+-- `words` has just the rows with each value as often as its count says, and they rise
+pub record Words-laws (counts : List ℕ) (rows : List Row) : Type 0 where
+  pub sound : (r : Row) → Listed rows r → Spells counts r
+  pub complete : (r : Row) → Spells counts r → Listed rows r
+  pub rising : Rising rows
+
+-- a row and the next with two values, side by side, exchanged
+abbrev pub Exchange : ℕ → Row → Row → Type 0
+Exchange n r next = (k : ℕ) × (k + 1 < n) × (next ≡ exchanged r k (k + 1))
+
+-- `changes` has just the orders of the values below n, and neighbours differ in two places, side by side, whose values
+-- are exchanged
+pub record Changes-laws (n : ℕ) (rows : List Row) : Type 0 where
+  pub sound : (r : Row) → Listed rows r → Permutation n r
+  pub complete : (r : Row) → Permutation n r → Listed rows r
+  pub apart : Apart rows
+  pub stepping : Stepping 2 rows
+  pub exchange : (i : ℕ) → i + 1 < length rows → Exchange n (row-at rows i) (row-at rows (i + 1))
