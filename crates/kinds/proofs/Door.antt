@@ -15,7 +15,7 @@ use Rattle.kinds.specs.Lists.{led-by, branches, turned, odd, ways, door}
 use Rattle.kinds.specs.Laws.{occurrences, Chosen, Apart, Stepping, Door-laws}
 use Rattle.kinds.proofs.Branches.{before, differences-same, differences-behind, differences-first, apart-branches, stepping-branches, length-turned, apart-turned, stepping-turned, turned-meets}
 use Rattle.kinds.proofs.Just.{Just, below-suc, just-leaf, just-branches, just-turned, apart-few, stepping-few, length-leaf, length-branches}
-use Rattle.kinds.proofs.Stock.{occurrences-cons}
+use Rattle.kinds.proofs.Occurrences.{occurrences-cons}
 
 -- the rows of one value less behind the first value v
 abbrev pub door-branch : ℕ → ℕ → ℕ → List Row

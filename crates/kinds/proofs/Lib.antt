@@ -1,5 +1,6 @@
 pub mod Branches
 pub mod Just
+pub mod Occurrences
 pub mod Digits
 pub mod Gray
 pub mod Stock

@@ -16,6 +16,7 @@ use Rattle.walk.specs.Rows.{Row, row-at}
 use Rattle.kinds.specs.Lists.{stock, ways, choose}
 use Rattle.kinds.specs.Laws.{occurrences, Within, Chosen, Apart, Rising, Stock-laws, Choose-laws}
 use Rattle.kinds.proofs.Branches.{apart-branches, rising-branches}
+use Rattle.kinds.proofs.Occurrences.{occurrences-cons}
 use Rattle.kinds.proofs.Just.{Just, below-suc, just-row, just-same, just-leaf, just-branches, apart-few, rising-few, length-leaf, length-branches}
 
 -- the rows of the other stocks behind the first value v
@@ -78,10 +79,6 @@ module _ (stocks : List ℕ) (t i : ℕ) (h : i < length (stock stocks t)) where
   -- of bytes, where each stock is at most 255
   pub stock-bytes : ((k : ℕ) → k < length stocks → getD stocks k 0 ≤ 255) → (k : ℕ) → k < length stocks → getD (row-at (stock stocks t) i) k 0 ≤ 255
   stock-bytes small k l = omega (arith, stock-row .1 k l, small k l)
-
--- how often v occurs in a row with the value x first
-pub occurrences-cons : (v x : ℕ) (r : Row) → occurrences v (x ∷ r) ≡ cond (eqb x v) 1 0 + occurrences v r
-occurrences-cons v x r = sumBy-cons (λ y. cond (eqb y v) 1 0) x r
 
 -- of values 0 and 1, the sum is the number of those that are 1
 pub sum-bits : (r : Row) → ((k : ℕ) → k < length r → getD r k 0 ≤ 1) → sum r ≡ occurrences 1 r

@@ -1,9 +1,10 @@
 -- What holds of the kinds' lists, in the words of the subject. Assumes nothing.
 use mathlib.Core.Path.{_≡_}
 use mathlib.Core.Logic.{_⊎_}
+use mathlib.Core.Bool.{cond}
 use mathlib.Core.List.{List, [], _∷_}
 use Prim.Native.Nat.{ℕ, _+_, _≤_, _<_}
-use lib.Dec.{eqb}
+use lib.Dec.{eqb, ltb}
 use lib.ListN.{length, getD, replicate}
 use Rattle.std.specs.shelf.Lists.{sum, countBy, exchanged}
 use Rattle.walk.specs.Rows.{Row, row-at, differences}
@@ -28,13 +29,13 @@ Within stocks t r = (length r ≡ length stocks) × ((k : ℕ) → k < length st
 abbrev pub Chosen : ℕ → ℕ → Row → Type 0
 Chosen n t r = (length r ≡ n) × ((k : ℕ) → k < n → getD r k 0 ≤ 1) × (occurrences 1 r ≡ t)
 
--- as many values as the counts say together, and each as often as its count says
+-- as many values as the counts say together: each as often as its count says, and no other
 abbrev pub Spells : List ℕ → Row → Type 0
-Spells counts r = (length r ≡ sum counts) × ((k : ℕ) → k < length r → getD r k 0 < length counts) × ((v : ℕ) → v < length counts → occurrences v r ≡ getD counts v 0)
+Spells counts r = (length r ≡ sum counts) × ((v : ℕ) → occurrences v r ≡ getD counts v 0)
 
--- n values, all below n, and each just once
+-- n values: each below n once, and no other
 abbrev pub Permutation : ℕ → Row → Type 0
-Permutation n r = (length r ≡ n) × ((k : ℕ) → k < n → getD r k 0 < n) × ((v : ℕ) → v < n → occurrences v r ≡ 1)
+Permutation n r = (length r ≡ n) × ((v : ℕ) → occurrences v r ≡ cond (ltb v n) 1 0)
 
 -- no two rows are the same
 abbrev pub Apart : List Row → Type 0
