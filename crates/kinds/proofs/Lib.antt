@@ -5,4 +5,5 @@ pub mod Digits
 pub mod Gray
 pub mod Stock
 pub mod Door
+pub mod Swaps
 pub mod Stretches
