@@ -6,4 +6,5 @@ pub mod Gray
 pub mod Stock
 pub mod Door
 pub mod Swaps
+pub mod Changes
 pub mod Stretches
