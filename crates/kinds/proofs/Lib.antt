@@ -7,4 +7,5 @@ pub mod Stock
 pub mod Door
 pub mod Swaps
 pub mod Changes
+pub mod Words
 pub mod Stretches
