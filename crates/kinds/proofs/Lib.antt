@@ -8,4 +8,5 @@ pub mod Door
 pub mod Swaps
 pub mod Changes
 pub mod Words
+pub mod Multinomial
 pub mod Stretches
