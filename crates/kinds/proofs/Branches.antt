@@ -12,28 +12,10 @@ use Rattle.std.proofs.shelf.Bits.{div-below, mod-below, div-add-mod'}
 use Rattle.std.proofs.shelf.Tests.{cases-lt, cases-order, eq-eqb, ne-eqb}
 use Rattle.std.proofs.shelf.Ways.{tells}
 use Rattle.walk.specs.Rows.{Row, row-at, differences}
+pub use Rattle.walk.proofs.Differences.{differences-behind, differences-first, differences-same, differences-comm}
+pub use Rattle.walk.proofs.Turned.{apart-one, listed-reverse, apart-reverse, stepping-reverse, length-turned, row-turned, listed-turned, apart-turned, stepping-turned, turned-meets}
 use Rattle.kinds.specs.Lists.{led-by, branches, turned}
 use Rattle.kinds.specs.Laws.{Listed, Apart, Precedes, Rising, Stepping}
-
--- two rows with one first value differ in as many places as without it
-pub differences-behind : (v : ℕ) (r s : Row) → differences (v ∷ r) (v ∷ s) ≡ differences r s
-differences-behind v r s = rw (eq-eqb v v refl) (zero-add (differences r s))
-
--- two rows with first values that differ differ in one place more than without them
-pub differences-first : (v w : ℕ) (r s : Row) → (v ≡ w → ⊥) → differences (v ∷ r) (w ∷ s) ≡ suc (differences r s)
-differences-first v w r s h = rw (ne-eqb v w h) (omega arith)
-
--- a row differs nowhere from itself
-pub differences-same : (r : Row) → differences r r ≡ 0
-differences-same [] = refl
-differences-same (x ∷ xs) = differences-behind x xs xs ∙ differences-same xs
-
--- the order of two rows does not matter
-pub differences-comm : (r s : Row) → differences r s ≡ differences s r
-differences-comm [] [] = refl
-differences-comm [] (y ∷ ys) = refl
-differences-comm (x ∷ xs) [] = refl
-differences-comm (x ∷ xs) (y ∷ ys) = ap₂ _+_ (grind (arith, tells)) (differences-comm xs ys)
 
 -- how many rows lie before the branch v
 abbrev pub before : (ℕ → List Row) → ℕ → ℕ
@@ -201,64 +183,3 @@ module _ (f : ℕ → List Row) where
   -- the next branch that has rows, where the very next has some
   pub next-branch : (v w : ℕ) → v < w → 0 < length (f (suc v)) → before f w ≡ before f (suc v) → w ≡ suc v
   next-branch v w h l e = ⊎-elim (λ o. absurd (omega (arith, before-later (suc v) w o))) (λ o. omega arith) (cases-lt (suc v) w)
-
--- one row alone is not there twice
-pub apart-one : (r : Row) → Apart (r ∷ [])
-apart-one r i j h l e = omega arith
-
-module _ (rows : List Row) where
-  -- backward there are the same rows
-  pub listed-reverse : (r : Row) → Listed rows r → Listed (reverse rows) r
-  listed-reverse r (i, h, e) =
-      let back : length rows - 1 - (length rows - 1 - i) ≡ i = omega arith in
-      (length rows - 1 - i, omega (arith, length-reverse rows), getD-reverse rows (length rows - 1 - i) [] (omega arith) ∙ ap (row-at rows) back ∙ e)
-
-  -- no two rows are the same backward either
-  pub apart-reverse : Apart rows → Apart (reverse rows)
-  apart-reverse apart i j h l e =
-      let h′ : i < length rows = omega (arith, length-reverse rows) in
-      let l′ : j < length rows = omega (arith, length-reverse rows) in
-      let same = apart (length rows - 1 - i) (length rows - 1 - j) (omega arith) (omega arith) (sym (getD-reverse rows i [] h′) ∙ e ∙ getD-reverse rows j [] l′) in
-      omega arith
-
-  -- neighbours differ in as many places backward
-  pub stepping-reverse : (n : ℕ) → Stepping n rows → Stepping n (reverse rows)
-  stepping-reverse n steps i h =
-      let l : i + 1 < length rows = omega (arith, length-reverse rows) in
-      let k = length rows - 1 - (i + 1) in
-      let e : length rows - 1 - i ≡ k + 1 = omega arith in
-      rw (getD-reverse rows i [] (omega arith), getD-reverse rows (i + 1) [] l, e) (differences-comm (row-at rows (k + 1)) (row-at rows k) ∙ steps k (omega arith))
-
--- turned rows are as many
-pub length-turned : (back : Bool) (rows : List Row) → length (turned back rows) ≡ length rows
-length-turned true rows = length-reverse rows
-length-turned false rows = refl
-
--- turned rows stand at labels counted from the other end
-pub row-turned : (back : Bool) (rows : List Row) (i : ℕ) → i < length rows → row-at (turned back rows) i ≡ row-at rows (cond back (length rows - 1 - i) i)
-row-turned true rows i h = getD-reverse rows i [] h
-row-turned false rows i h = refl
-
--- turned rows are the same rows
-pub listed-turned : (back : Bool) (rows : List Row) (r : Row) → Listed (turned back rows) r ↔ Listed rows r
-listed-turned true rows r = (λ h. rw (reverse-reverse rows) at (listed-reverse (reverse rows) r h), listed-reverse rows r)
-listed-turned false rows r = (λ h. h, λ h. h)
-
--- no two turned rows are the same where no two rows are
-pub apart-turned : (back : Bool) (rows : List Row) → Apart rows → Apart (turned back rows)
-apart-turned true rows h = apart-reverse rows h
-apart-turned false rows h = h
-
--- neighbours differ in as many places after a turn
-pub stepping-turned : (back : Bool) (n : ℕ) (rows : List Row) → Stepping n rows → Stepping n (turned back rows)
-stepping-turned true n rows h = stepping-reverse rows n h
-stepping-turned false n rows h = h
-
--- rows and the same rows turned meet in one row
-pub turned-meets : (back : Bool) (rows : List Row) → 0 < length rows → row-at (turned back rows) (length (turned back rows) - 1) ≡ row-at (turned (not back) rows) 0
-turned-meets true rows h =
-    let e : length rows - 1 - (length (reverse rows) - 1) ≡ 0 = omega (arith, length-reverse rows) in
-    getD-reverse rows (length (reverse rows) - 1) [] (omega (arith, length-reverse rows)) ∙ ap (row-at rows) e
-turned-meets false rows h =
-    let e : length rows - 1 - 0 ≡ length rows - 1 = omega arith in
-    sym (getD-reverse rows 0 [] h ∙ ap (row-at rows) e)

@@ -7,11 +7,8 @@ use Prim.Native.Nat.{ℕ, _+_, _≤_, _<_}
 use lib.Dec.{eqb, ltb}
 use lib.ListN.{length, getD, replicate}
 use Rattle.std.specs.shelf.Lists.{sum, countBy, exchanged}
-use Rattle.walk.specs.Rows.{Row, row-at, differences}
-
--- the row stands at some label
-abbrev pub Listed : List Row → Row → Type 0
-Listed rows r = (i : ℕ) × (i < length rows) × (row-at rows i ≡ r)
+use Rattle.walk.specs.Rows.{Row, row-at}
+pub use Rattle.walk.specs.Rows.{Listed, Apart, Stepping}
 
 -- one value for each radix, and below it
 abbrev pub Under : List ℕ → Row → Type 0
@@ -37,10 +34,6 @@ Spells counts r = (length r ≡ sum counts) × ((v : ℕ) → occurrences v r �
 abbrev pub Permutation : ℕ → Row → Type 0
 Permutation n r = (length r ≡ n) × ((v : ℕ) → occurrences v r ≡ cond (ltb v n) 1 0)
 
--- no two rows are the same
-abbrev pub Apart : List Row → Type 0
-Apart rows = (i j : ℕ) → i < length rows → j < length rows → row-at rows i ≡ row-at rows j → i ≡ j
-
 -- lexicographic order: the first value weighs most
 abbrev pub Precedes : Row → Row → Type 0
 Precedes [] ys = ⊥
@@ -50,10 +43,6 @@ Precedes (x ∷ xs) (y ∷ ys) = (x < y) ⊎ ((x ≡ y) × Precedes xs ys)
 -- each row precedes all later ones
 abbrev pub Rising : List Row → Type 0
 Rising rows = (i j : ℕ) → i < j → j < length rows → Precedes (row-at rows i) (row-at rows j)
-
--- neighbouring rows differ in just n places
-abbrev pub Stepping : ℕ → List Row → Type 0
-Stepping n rows = (i : ℕ) → i + 1 < length rows → differences (row-at rows i) (row-at rows (i + 1)) ≡ n
 
 -- `digits` has just the rows with each value below its radix, and they rise
 pub record Digits-laws (radices : List ℕ) (rows : List Row) : Type 0 where

@@ -1,11 +1,12 @@
 -- The lists of rows of the kinds, as their rules state them. Assumes nothing.
-use mathlib.Core.Bool.{Bool, cond}
+use mathlib.Core.Bool.{cond}
 use mathlib.Core.List.{List, [], _∷_, _++_, map, reverse}
-use Prim.Native.Nat.{ℕ, zero, suc, min, _+_, _*_, _-_, _%_}
+use Prim.Native.Nat.{ℕ, zero, suc, min, _+_, _*_, _-_}
 use lib.Dec.{eqb}
 use lib.ListN.{length, getD, set, replicate}
 use Rattle.std.specs.shelf.Lists.{sum}
 use Rattle.walk.specs.Rows.{Row}
+pub use Rattle.walk.specs.Rows.{turned, odd}
 
 -- the value v before each of the rows
 abbrev pub led-by : ℕ → List Row → List Row
@@ -15,13 +16,6 @@ led-by v rows = map (λ (r : Row). v ∷ r) rows
 abbrev pub branches : ℕ → (ℕ → List Row) → List Row
 branches zero f = []
 branches (suc m) f = branches m f ++ led-by m (f m)
-
--- the rows backward or as they are
-abbrev pub turned : Bool → List Row → List Row
-turned back rows = cond back (reverse rows) rows
-
-abbrev pub odd : ℕ → Bool
-odd v = eqb (v % 2) 1
 
 -- the number of rows with each value below its radix
 abbrev pub product : List ℕ → ℕ

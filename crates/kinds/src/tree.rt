@@ -49,7 +49,8 @@ pub trait Node {
     // how many values each of them has
     ghost depth: { Self → ℕ };
 
-    law leaf: { (n : Self) → depth n ≡ 0 → below n ≡ [] ∷ [] };
+    // where no value is left there is one row, the empty one
+    ghost leaf: { (n : Self) → depth n ≡ 0 → below n ≡ [] ∷ [] };
 
     // The first value of the row at a label.
     fn pick(&self, label: u32) -> u8

@@ -4,12 +4,14 @@ use mathlib.Core.Bool.{Bool, true, false, cond, _&&_}
 use mathlib.Core.List.{List, [], _∷_}
 use Prim.Native.Nat.{ℕ, zero, suc, _+_, _≤_, _<_}
 use native.Mathlib.Omega.{arith}
+use native.Mathlib.Nat.{zero-add}
 use lib.Dec.{eqb}
 use lib.ListN.{length, getD}
 use Rattle.std.specs.Options.{mapped}
 use Rattle.std.specs.declared.option.Option.{Option}
 use Rattle.std.specs.declared.option.Option.the-variants.{Some, None}
 use Rattle.std.proofs.shelf.Tests.{eqb-true, eqb-false, eq-eqb, ne-eqb, and-parts, and-from, cases-bool, cond-true, cond-false}
+use Rattle.std.proofs.shelf.Ways.{tells}
 use Rattle.walk.specs.Rows.{Row, row-at, same-row, label-of, differences, lowest, highest}
 
 -- rows that pass the test are equal
@@ -84,3 +86,23 @@ highest-none (x ∷ xs) [] long all = refl
 highest-none (x ∷ xs) (y ∷ ys) long all =
     let rest = equal-by-values xs ys (omega arith) (λ k lt. all (suc k) (omega arith)) in
     cond-true (same-row xs ys) 0 (suc (highest xs ys)) (subst (λ r. same-row xs r ≡ true) rest (same-itself xs))
+
+-- two rows with one first value differ in as many places as without it
+pub differences-behind : (v : ℕ) (r s : Row) → differences (v ∷ r) (v ∷ s) ≡ differences r s
+differences-behind v r s = rw (eq-eqb v v refl) (zero-add (differences r s))
+
+-- two rows with first values that differ differ in one place more than without them
+pub differences-first : (v w : ℕ) (r s : Row) → (v ≡ w → ⊥) → differences (v ∷ r) (w ∷ s) ≡ suc (differences r s)
+differences-first v w r s h = rw (ne-eqb v w h) (omega arith)
+
+-- a row differs nowhere from itself
+pub differences-same : (r : Row) → differences r r ≡ 0
+differences-same [] = refl
+differences-same (x ∷ xs) = differences-behind x xs xs ∙ differences-same xs
+
+-- the order of two rows does not matter
+pub differences-comm : (r s : Row) → differences r s ≡ differences s r
+differences-comm [] [] = refl
+differences-comm [] (y ∷ ys) = refl
+differences-comm (x ∷ xs) [] = refl
+differences-comm (x ∷ xs) (y ∷ ys) = ap₂ _+_ (grind (arith, tells)) (differences-comm xs ys)

@@ -1,2 +1,3 @@
-pub mod Differences
 pub mod Calls
+pub mod Differences
+pub mod Turned

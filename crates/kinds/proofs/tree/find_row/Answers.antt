@@ -33,5 +33,5 @@ pub returns : need.returns
 returns g c =
     let row = c .args .row .now in
     let i = c .loop-i .i in
-    sym (stands-leaf (c .loop-i .inv .1) (g .N·Node·met .leaf (c .loop-i .node) (omega (arith, c .loop-i .inv .0))))
+    sym (stands-leaf (c .loop-i .inv .1) (g .N·Node .leaf (c .loop-i .node) (omega (arith, c .loop-i .inv .0))))
     ∙ ap (label-of (g .N·Node .below (c .args .node))) (take-all i row (omega arith))

@@ -40,5 +40,5 @@ pub returns : need.returns
 returns g c =
     let tray = c .loop-cell .tray in
     let done : length tray ≤ c .loop-cell .cell-index = omega arith in
-    let leaf = g .N·Node·met .leaf (c .loop-cell .node) (omega (arith, c .loop-cell .inv .0)) in
+    let leaf = g .N·Node .leaf (c .loop-cell .node) (omega (arith, c .loop-cell .inv .0)) in
     sym (c .loop-cell .inv .2 ∙ ap (λ r. take (c .loop-cell .cell-index) tray ++ r) (leaf-row leaf (c .loop-cell .rest)) ∙ append-nil _ ∙ take-all _ tray done)
