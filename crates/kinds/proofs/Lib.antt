@@ -8,6 +8,7 @@ pub mod Just
 pub mod Made
 pub mod MixedRadix
 pub mod Multinomial
+pub mod Nodes
 pub mod Occurrences
 pub mod Radices
 pub mod ShapeLaws
