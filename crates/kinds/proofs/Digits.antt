@@ -1,27 +1,23 @@
 -- The laws of `digits`, and what holds of any list of just the rows under given radices. Assumes nothing.
-use mathlib.Core.Path.{_≡_, refl, sym, ap}
-use mathlib.Core.Logic.{_↔_}
+use mathlib.Core.Path.{_≡_, refl, ap}
 use mathlib.Core.List.{List, [], _∷_}
-use Prim.Native.Nat.{ℕ, zero, suc, _≤_, _<_}
+use Prim.Native.Nat.{ℕ, suc, _≤_, _<_}
 use native.Mathlib.Omega.{arith}
 use lib.ListN.{length, getD}
 use Rattle.std.proofs.shelf.Lists.{nil-from-length}
 use Rattle.walk.specs.Rows.{Row, row-at}
 use Rattle.kinds.specs.Lists.{branches, product, digits}
-use Rattle.kinds.specs.Laws.{Listed, Under, Apart, Rising, Digits-laws}
-use Rattle.kinds.proofs.Branches.{listed-branches, branches-listed, length-uniform, apart-one, apart-branches, rising-branches}
+use Rattle.kinds.specs.Laws.{Under, Apart, Rising, Digits-laws}
+use Rattle.kinds.proofs.Branches.{length-uniform, apart-one, apart-branches, rising-branches}
+use Rattle.kinds.proofs.Just.{Just, below-suc, just-row, just-empty, just-branches}
 
 -- just the rows with each value below its radix
 abbrev pub Just-under : List ℕ → List Row → Type 0
-Just-under radices rows = (r : Row) → Listed rows r ↔ Under radices r
+Just-under radices rows = Just (Under radices) rows
 
 -- a value below its radix goes before a row
 pub under-more : (radix v : ℕ) (radices : List ℕ) (r : Row) → v < radix → Under radices r → Under (radix ∷ radices) (v ∷ r)
-under-more radix v radices r h u = (ap suc (u .0), each)
-  where
-    each : (k : ℕ) → k < length (radix ∷ radices) → getD (v ∷ r) k 0 < getD (radix ∷ radices) k 0
-    each zero l = h
-    each (suc k) l = u .1 k (omega arith)
+under-more radix v radices r h u = (ap suc (u .0), below-suc (length radices) (λ k. getD (v ∷ r) k 0 < getD (radix ∷ radices) k 0) h (u .1))
 
 -- and parts from it
 pub under-parts : (radix v : ℕ) (radices : List ℕ) (r : Row) → Under (radix ∷ radices) (v ∷ r) → (v < radix) × Under radices r
@@ -29,32 +25,18 @@ under-parts radix v radices r u = (u .1 0 (omega arith), (omega (arith, u .0), �
 
 -- the empty row alone is under no radices
 pub under-none : Just-under [] ([] ∷ [])
-under-none r = (sound, λ u. (0, omega arith, sym (nil-from-length r (u .0))))
-  where
-    sound : Listed ([] ∷ []) r → Under [] r
-    sound (zero, h, e) = (ap length (sym e), λ k l. absurd (omega arith))
-    sound (suc i, h, e) = absurd (omega arith)
+under-none = just-empty (Under []) (refl, λ k h. absurd (omega arith)) (λ r u. nil-from-length r (u .0))
 
 -- where each branch has just the rows under the other radices, the branches have just those under all
 pub under-branches : (radix : ℕ) (radices : List ℕ) (f : ℕ → List Row) → ((v : ℕ) → v < radix → Just-under radices (f v)) → Just-under (radix ∷ radices) (branches radix f)
-under-branches radix radices f each r = (sound, complete r)
-  where
-    sound : Listed (branches radix f) r → Under (radix ∷ radices) r
-    sound h =
-        let b = branches-listed f radix r h in
-        rw (b .3) (under-more radix (b .0) radices (b .1) (b .2) (each (b .0) (b .2) (b .1) .0 (b .4)))
-
-    complete : (s : Row) → Under (radix ∷ radices) s → Listed (branches radix f) s
-    complete [] u = absurd (omega (arith, u .0))
-    complete (v ∷ s) u =
-        let p = under-parts radix v radices s u in
-        listed-branches f radix v s (p .0) (each v (p .0) s .1 (p .1))
+under-branches radix radices f each =
+    just-branches (Under (radix ∷ radices)) radix f (λ v. Under radices) each (λ u. omega (arith, u .0)) (λ v r. under-more radix v radices r) (λ v r. under-parts radix v radices r)
 
 -- just the rows under the radices: what each row then is
 module _ (radices : List ℕ) (rows : List Row) (just : Just-under radices rows) (i : ℕ) (h : i < length rows) where
   -- under the radices
   pub row-under : Under radices (row-at rows i)
-  row-under = just (row-at rows i) .0 (i, h, refl)
+  row-under = just-row (Under radices) rows just i h
 
   -- as wide as there are radices
   pub width-under : length (row-at rows i) ≡ length radices

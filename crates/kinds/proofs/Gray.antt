@@ -1,6 +1,6 @@
 -- The laws of `gray`. Assumes nothing.
 use mathlib.Core.Path.{_≡_, refl, _∙_}
-use mathlib.Core.Bool.{Bool, not}
+use mathlib.Core.Bool.{not}
 use mathlib.Core.List.{List, [], _∷_}
 use Prim.Native.Nat.{ℕ, suc, _-_, _<_}
 use native.Mathlib.Omega.{arith}
@@ -8,8 +8,9 @@ use lib.ListN.{length}
 use Rattle.std.proofs.shelf.Ways.{tells}
 use Rattle.walk.specs.Rows.{Row, row-at}
 use Rattle.kinds.specs.Lists.{turned, odd, product, gray}
-use Rattle.kinds.specs.Laws.{Apart, Stepping, Gray-laws}
-use Rattle.kinds.proofs.Branches.{before, length-uniform, apart-one, apart-branches, stepping-one, next-branch, length-turned, listed-turned, apart-turned, stepping-turned, turned-meets}
+use Rattle.kinds.specs.Laws.{Under, Apart, Stepping, Gray-laws}
+use Rattle.kinds.proofs.Branches.{before, length-uniform, apart-one, apart-branches, stepping-one, next-branch, length-turned, apart-turned, stepping-turned, turned-meets}
+use Rattle.kinds.proofs.Just.{just-turned}
 use Rattle.kinds.proofs.Digits.{Just-under, under-none, under-branches}
 
 -- the rows of the other radices behind the first value v
@@ -20,12 +21,6 @@ gray-branch radices v = turned (odd v) (gray radices)
 pub odd-suc : (v : ℕ) → odd (suc v) ≡ not (odd v)
 odd-suc v = grind (arith, tells)
 
--- turned rows are under the same radices
-pub under-turned : (back : Bool) (radices : List ℕ) (rows : List Row) → Just-under radices rows → Just-under radices (turned back rows)
-under-turned back radices rows just r =
-    let same = listed-turned back rows r in
-    (λ h. just r .0 (same .0 h), λ u. same .1 (just r .1 u))
-
 -- there are as many rows as the product of the radices
 pub gray-length : (radices : List ℕ) → length (gray radices) ≡ product radices
 gray-length [] = refl
@@ -34,7 +29,7 @@ gray-length (radix ∷ radices) = length-uniform (gray-branch radices) radix (pr
 -- they are the rows under the radices
 pub gray-under : (radices : List ℕ) → Just-under radices (gray radices)
 gray-under [] = under-none
-gray-under (radix ∷ radices) = under-branches radix radices (gray-branch radices) (λ v h. under-turned (odd v) radices (gray radices) (gray-under radices))
+gray-under (radix ∷ radices) = under-branches radix radices (gray-branch radices) (λ v h. just-turned (Under radices) (odd v) (gray radices) (gray-under radices))
 
 -- no two are the same
 pub gray-apart : (radices : List ℕ) → Apart (gray radices)
@@ -56,4 +51,4 @@ gray-stepping (radix ∷ radices) = stepping-one (gray-branch radices) radix (λ
 
 -- the laws together
 pub gray-laws : (radices : List ℕ) → Gray-laws radices (gray radices)
-gray-laws radices = record { sound = λ r. gray-under radices r .0; complete = λ r. gray-under radices r .1; stepping = gray-stepping radices }
+gray-laws radices = record { sound = λ r. gray-under radices r .0; complete = λ r. gray-under radices r .1; apart = gray-apart radices; stepping = gray-stepping radices }
