@@ -4,6 +4,7 @@ ghost use mathlib.Core.Path.{_≡_};
 ghost use mathlib.Core.List.{List, [], _∷_, _++_};
 ghost use Prim.Native.Nat.{ℕ, _+_, _<_, _≤_};
 ghost use lib.ListN.{length};
+ghost use Rattle.std.specs.Slices.{found};
 ghost use Rattle.walk.specs.Rows.{Row, row-at, label-of};
 ghost use Rattle.kinds.specs.Tree.{Enters, label-in, label-within, after-both};
 use super::stretch::Stretch;
@@ -63,7 +64,7 @@ pub trait Node {
     fn enter(&mut self, value: u8) -> Option<Stretch>
         requires { ⌜ 0 < depth (now self) ⌝ }
         ensures branch { λ b. ⌜ Enters (below (now (self .entry))) value b (below (now (self .exit))) ⌝ }
-        ensures down { λ _. ⌜ depth (now (self .entry)) ≡ depth (now (self .exit)) + 1 ⌝ };
+        ensures down { λ b. ⌜ found b (λ _. depth (now (self .entry)) ≡ depth (now (self .exit)) + 1) ⌝ };
 }
 
 // Writes the row at a label of the node's rows.

@@ -25,7 +25,7 @@ loop-i-again g c =
     let below = g .N·Node .below in
     let went = stands-then (c .loop-i .inv .1) (getD row i 0) _ (below (c .enter .last .self)) (c .in-Continue-stretch .ensures tt .branch) in
     let more = take-more row i 0 (omega arith) in (
-      omega (arith, c .enter .ensures .down, c .loop-i .inv .0),
+      omega (arith, c .in-Continue-stretch .ensures tt .down, c .loop-i .inv .0),
       subst₂ (λ front s. Stands (below (c .args .node)) front s (below (c .enter .last .self))) (sym more) (sym (c .then-whole .ensures)) went,
     )
 

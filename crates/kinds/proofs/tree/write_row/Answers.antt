@@ -28,7 +28,7 @@ loop-cell-again g c =
     let range = stands .only _ (first .0) (c .loop-cell .inv .1) (first .1) in
     let left = stands-at stands (c .loop-cell .rest) (range .0) (range .1) in
     let inside : i < length tray = omega arith in (
-      omega (arith, c .enter .ensures .down, c .loop-cell .inv .0, length-set tray i v),
+      omega (arith, c .in-Some .ensures tt .down, c .loop-cell .inv .0, length-set tray i v),
       subst (λ k. k < length inner) (sym (c .label-within-rest .ensures)) (left .0),
       c .loop-cell .inv .2
           ∙ ap (λ r. take i tray ++ r) (left .1 ∙ ap (λ k. v ∷ row-at inner k) (sym (c .label-within-rest .ensures)))

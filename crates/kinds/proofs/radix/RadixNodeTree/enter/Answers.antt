@@ -21,7 +21,7 @@ returns-then-value-radix c =
     let self = c .args .self .now in
     record {
       branch = levels-outside (self .reflected) (self .levels .now) (c .args .value) (c .pre) (self .hold) (c .if-value-radix .taken);
-      down = rest-length (self .levels .now) (c .pre);
+      down = tt;
     }
 
 pub mul-result : need.mul-result
