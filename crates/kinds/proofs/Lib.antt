@@ -15,4 +15,5 @@ pub mod ShapeLaws
 pub mod Stock
 pub mod Stretches
 pub mod Swaps
+pub mod Told
 pub mod Words
