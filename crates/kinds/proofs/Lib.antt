@@ -5,6 +5,7 @@ pub mod Door
 pub mod Entering
 pub mod Gray
 pub mod Just
+pub mod Lower
 pub mod Made
 pub mod MixedRadix
 pub mod Multinomial

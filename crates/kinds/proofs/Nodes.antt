@@ -18,7 +18,7 @@ use Rattle.kinds.proofs.Entering.{branch-stands, branch-outside}
 use Rattle.kinds.proofs.Just.{length-branches}
 use Rattle.kinds.proofs.Multinomial.{branch-length, before-length}
 use Rattle.kinds.proofs.Stock.{stock-branch, stock-length}
-use Rattle.kinds.proofs.Words.{words-branch, counted-below}
+use Rattle.kinds.proofs.Words.{words-branch, branch-counted, counted-below}
 
 -- no row begins with v
 abbrev pub Nowhere : List Row → ℕ → Type 0
@@ -112,11 +112,8 @@ words-before m n counts v = sum (take v counts) * m / n
 abbrev pub words-behind : ℕ → ℕ → List ℕ → ℕ → ℕ
 words-behind m n counts v = getD counts v 0 * m / n
 
--- the branch of a value that has a count
-pub branch-counted : (n : ℕ) (counts : List ℕ) (v : ℕ) → 0 < getD counts v 0 → words-branch n counts v ≡ words-of n (one-less counts v)
-branch-counted n counts v some = rw (ne-eqb (getD counts v 0) 0 (λ e. omega arith))
-
 module _ (n : ℕ) (counts : List ℕ) (e : sum counts ≡ suc n) (v : ℕ) where
+  -- the branch of a value that has a count
   pub words-enters : 0 < getD counts v 0 → Stands (words-of (suc n) counts) (v ∷ []) (record { from = words-before (length (words-of (suc n) counts)) (suc n) counts v; count = words-behind (length (words-of (suc n) counts)) (suc n) counts v; backward = false }) (words-of n (one-less counts v))
   words-enters some =
       let inside = counted-below counts v some in

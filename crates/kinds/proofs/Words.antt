@@ -13,7 +13,7 @@ use Rattle.std.specs.shelf.Lists.{sum}
 use Rattle.std.proofs.shelf.Bits.{div-mul-add, mul-lt}
 use Rattle.std.proofs.shelf.Lists.{nil-from-length, getD-set-same, getD-set-other, getD-past, take-all}
 use Rattle.std.proofs.shelf.Sums.{sumBy-set, sumBy-more, getD-le-sumBy}
-use Rattle.std.proofs.shelf.Tests.{eqb-true, eqb-false, cond-both, cases-lt, cases-eq}
+use Rattle.std.proofs.shelf.Tests.{eqb-true, eqb-false, ne-eqb, cond-both, cases-lt, cases-eq}
 use Rattle.walk.specs.Rows.{Row, row-at}
 use Rattle.kinds.specs.Lists.{branches, one-less, words-of, words, factorial}
 use Rattle.kinds.specs.Laws.{Listed, occurrences, Spells, Apart, Rising, Words-laws}
@@ -25,6 +25,10 @@ use Rattle.kinds.proofs.Stock.{sum-cons}
 -- the rows of one value less behind the first value v
 abbrev pub words-branch : ℕ → List ℕ → ℕ → List Row
 words-branch n counts v = cond (eqb (getD counts v 0) 0) [] (words-of n (one-less counts v))
+
+-- the branch of a value that has a count
+pub branch-counted : (n : ℕ) (counts : List ℕ) (v : ℕ) → 0 < getD counts v 0 → words-branch n counts v ≡ words-of n (one-less counts v)
+branch-counted n counts v some = rw (ne-eqb (getD counts v 0) 0 (λ e. omega arith))
 
 -- what holds of no rows, and where v has a count of the rows of one less of it, holds of the branch v
 pub each-branch : (P : List Row → Type 0) (n : ℕ) (counts : List ℕ) (v : ℕ) → (getD counts v 0 ≡ 0 → P []) → (0 < getD counts v 0 → P (words-of n (one-less counts v))) → P (words-branch n counts v)
