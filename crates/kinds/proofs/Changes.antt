@@ -7,20 +7,20 @@ use Prim.Native.Nat.{ℕ, zero, suc, _+_, _*_, _-_, _/_, _%_, _≤_, _<_}
 use native.Mathlib.Omega.{arith}
 use native.Mathlib.Nat.{zero-mul, suc-mul, mul-comm}
 use native.Mathlib.Numerals.{add-one}
-use lib.Dec.{eqb, ltb}
+use lib.Dec.{ltb}
 use lib.ListN.{length, getD, take, drop}
 use Rattle.std.specs.Options.{mapped}
 use Rattle.std.specs.shelf.Lists.{inserted}
 use Rattle.std.specs.declared.option.Option.{Option}
 use Rattle.std.specs.declared.option.Option.the-variants.{Some, None}
 use Rattle.std.proofs.shelf.Bits.{div-below, mod-below, div-add-mod', mul-add-lt, mul-le}
-use Rattle.std.proofs.shelf.Lists.{nil-from-length, append-nil, take-append-drop, take-at, drop-at, take-all, drop-all, length-append, length-map, length-take-le, getD-append-left, getD-append-add, getD-map, getD-at}
-use Rattle.std.proofs.shelf.Tests.{cases-lt, eqb-true}
+use Rattle.std.proofs.shelf.Lists.{nil-from-length, take-append-drop, take-at, drop-at, take-all, drop-all, length-append, length-map, length-take-le, getD-append-left, getD-append-add, getD-map, getD-at}
+use Rattle.std.proofs.shelf.Tests.{cases-lt}
 use Rattle.std.proofs.shelf.Ways.{tells}
 use Rattle.walk.specs.Rows.{Row, row-at, label-of}
 use Rattle.walk.proofs.Differences.{label-of-missing}
 use Rattle.kinds.specs.Lists.{led-by, turned, odd, sweep, woven, changes, factorial}
-use Rattle.kinds.specs.Laws.{Listed, occurrences, Permutation, Apart, Stepping, Changes-laws}
+use Rattle.kinds.specs.Laws.{Listed, occurrences, Permutation, Apart, Changes-laws}
 use Rattle.kinds.proofs.Branches.{apart-one, length-turned, row-turned}
 use Rattle.kinds.proofs.Gray.{odd-suc}
 use Rattle.kinds.proofs.Just.{Just, just-row, just-empty}

@@ -1,10 +1,10 @@
 -- The label of an order of values, by the orders of its lower values. Assumes nothing.
 use mathlib.Core.Path.{_≡_, refl, sym, ap, ap₂, _∙_}
-use mathlib.Core.Bool.{Bool, true, false, cond}
-use mathlib.Core.List.{List, [], _∷_, _++_}
-use Prim.Native.Nat.{ℕ, zero, suc, _+_, _*_, _≤_, _<_}
+use mathlib.Core.Bool.{cond}
+use mathlib.Core.List.{[], _∷_, _++_}
+use Prim.Native.Nat.{ℕ, suc, _+_, _*_, _<_}
 use native.Mathlib.Omega.{arith}
-use lib.Dec.{eqb, ltb}
+use lib.Dec.{ltb}
 use lib.ListN.{length, getD}
 use Rattle.std.specs.Options.{mapped}
 use Rattle.std.specs.shelf.Lists.{kept-by}
@@ -15,7 +15,7 @@ use Rattle.walk.specs.Rows.{Row, label-of}
 use Rattle.kinds.specs.Lists.{changes}
 use Rattle.kinds.specs.Laws.{occurrences, Permutation}
 use Rattle.kinds.proofs.Changes.{position, changes-label, permutation-below}
-use Rattle.kinds.proofs.Occurrences.{counts-as, counts-same, occurrences-cons}
+use Rattle.kinds.proofs.Occurrences.{counts-as, occurrences-cons}
 
 -- the values of a row below v, in their order
 abbrev pub lower : ℕ → Row → Row

@@ -10,7 +10,6 @@ use Rattle.std.specs.shelf.Lists.{sum}
 use Rattle.std.proofs.shelf.Bits.{div-mul-add, mul-lt}
 use Rattle.std.proofs.shelf.Lists.{take-all, getD-at, set-at}
 use Rattle.std.proofs.shelf.Sums.{sumBy-more, sumBy-push}
-use Rattle.walk.specs.Rows.{Row}
 use Rattle.kinds.specs.Lists.{one-less, words-of, factorial}
 use Rattle.kinds.proofs.Branches.{before, before-suc, before-later}
 use Rattle.kinds.proofs.Stock.{sum-cons}
