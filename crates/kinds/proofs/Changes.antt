@@ -7,20 +7,25 @@ use Prim.Native.Nat.{ℕ, zero, suc, _+_, _*_, _-_, _/_, _%_, _≤_, _<_}
 use native.Mathlib.Omega.{arith}
 use native.Mathlib.Nat.{zero-mul, suc-mul, mul-comm}
 use native.Mathlib.Numerals.{add-one}
-use lib.Dec.{eqb, ltb}
+use lib.Dec.{ltb}
 use lib.ListN.{length, getD, take, drop}
+use Rattle.std.specs.Options.{mapped}
 use Rattle.std.specs.shelf.Lists.{inserted}
+use Rattle.std.specs.declared.option.Option.{Option}
+use Rattle.std.specs.declared.option.Option.the-variants.{Some, None}
 use Rattle.std.proofs.shelf.Bits.{div-below, mod-below, div-add-mod', mul-add-lt, mul-le}
-use Rattle.std.proofs.shelf.Lists.{nil-from-length, append-nil, take-append-drop, take-at, drop-at, take-all, drop-all, length-append, length-map, length-take-le, getD-append-left, getD-append-add, getD-map, getD-at}
-use Rattle.std.proofs.shelf.Tests.{cases-lt, eqb-true}
+use Rattle.std.proofs.shelf.Lists.{nil-from-length, take-append-drop, take-at, drop-at, take-all, drop-all, length-append, length-map, length-take-le, getD-append-left, getD-append-add, getD-map, getD-at}
+use Rattle.std.proofs.shelf.Tests.{cases-lt}
 use Rattle.std.proofs.shelf.Ways.{tells}
-use Rattle.walk.specs.Rows.{Row, row-at}
+use Rattle.walk.specs.Rows.{Row, row-at, label-of}
+use Rattle.walk.proofs.Differences.{label-of-missing}
 use Rattle.kinds.specs.Lists.{led-by, turned, odd, sweep, woven, changes, factorial}
-use Rattle.kinds.specs.Laws.{Listed, occurrences, Permutation, Apart, Stepping, Changes-laws}
+use Rattle.kinds.specs.Laws.{Listed, occurrences, Permutation, Apart, Changes-laws}
 use Rattle.kinds.proofs.Branches.{apart-one, length-turned, row-turned}
 use Rattle.kinds.proofs.Gray.{odd-suc}
 use Rattle.kinds.proofs.Just.{Just, just-row, just-empty}
-use Rattle.kinds.proofs.Occurrences.{counts-as, occurrences-put, occurrences-take, occurs, found, parted}
+use Rattle.kinds.proofs.Told.{Told, label-told, apart-label}
+use Rattle.kinds.proofs.Occurrences.{counts-as, counts-other, occurrences-put, occurrences-take, occurs, found, parted}
 use Rattle.kinds.proofs.Swaps.{Swap, swap-sym, swap-behind, swap-before, swap-inserted, swap-steps, swap-exchange}
 
 -- as many rows as there are positions
@@ -129,6 +134,15 @@ permutation-below n r h k l = below (getD r k 0) (h .1 (getD r k 0)) (occurs r k
     below : (v : ℕ) → occurrences v r ≡ cond (ltb v n) 1 0 → 0 < occurrences v r → v < n
     below v e some = grind (arith, tells)
 
+-- n values among which each below n occurs
+pub permutation-from-all : (n : ℕ) (r : Row) → length r ≡ n → ((v : ℕ) → v < n → 0 < occurrences v r) → Permutation n r
+permutation-from-all zero r e all = (e, λ v. ap (occurrences v) (nil-from-length r e) ∙ grind (arith, tells))
+permutation-from-all (suc n) r e all =
+    let (front, back, at) = found n r (all n (omega arith)) in
+    let long : length (front ++ back) ≡ n = omega (arith, ap length at, length-append front (n ∷ back), length-append front back) in
+    let others : (v : ℕ) → v < n → 0 < occurrences v (front ++ back) = λ v h. omega (arith, all v (omega arith), ap (occurrences v) at, occurrences-put v n front back, counts-other v n (λ same. omega arith)) in
+    subst (Permutation (suc n)) (sym at) (permutation-more n front back (permutation-from-all n (front ++ back) long others))
+
 -- where a new value was put in, and into what
 pub inserted-parts : (n p q : ℕ) (r s : Row) → p ≤ length r → q ≤ length s → occurrences n r ≡ 0 → occurrences n s ≡ 0 → inserted r p n ≡ inserted s q n → (r ≡ s) × (p ≡ q)
 inserted-parts n p q r s hp hq nr ns e =
@@ -181,6 +195,20 @@ module _ (n : ℕ) (rows : List Row) (just : Just (Permutation n) rows) where
   weave-of : (l : ℕ) → l < length (woven n 0 rows) → (i : ℕ) × (j : ℕ) × (i < length rows) × (j < suc n) × (l ≡ i * suc n + j)
   weave-of l h = block-of (length rows) (suc n) l (omega arith) (omega (arith, weave-length))
 
+  -- where a row stands with n put in
+  pub weave-put : (i : ℕ) (front back : Row) → i < length rows → row-at rows i ≡ front ++ back
+      → (i * suc n + position n i (length front) < length (woven n 0 rows)) × (row-at (woven n 0 rows) (i * suc n + position n i (length front)) ≡ front ++ (n ∷ back))
+  weave-put i front back hi e =
+      let p = length front in
+      let low : p ≤ n = omega (arith, wide i hi, ap length e, length-append front back) in
+      let j = position n i p in
+      let lj : j ≤ n = position-below n i p low in (
+        omega (arith, weave-length, mul-add-lt i (suc n) j (length rows) hi (omega arith)),
+        weave-at i j hi lj
+            ∙ ap₂ (λ s q. inserted s q n) e (position-back n i p low)
+            ∙ ap₂ (λ a b. a ++ (n ∷ b)) (take-at front back p refl) (drop-at front back p refl),
+      )
+
   pub weave-just : Just (Permutation (suc n)) (woven n 0 rows)
   weave-just r = (sound, complete)
     where
@@ -196,19 +224,9 @@ module _ (n : ℕ) (rows : List Row) (just : Just (Permutation n) rows) where
       complete : Permutation (suc n) r → Listed (woven n 0 rows) r
       complete perm =
           let (front, back, e) = found n r (omega (arith, permutation-last n r perm)) in
-          let rest = permutation-less n front back (subst (Permutation (suc n)) e perm) in
-          let (i, hi, ei) = just (front ++ back) .1 rest in
-          let p = length front in
-          let low : p ≤ n = omega (arith, rest .0, length-append front back) in
-          let j = position n i p in
-          let lj : j ≤ n = position-below n i p low in (
-            i * suc n + j,
-            omega (arith, weave-length, mul-add-lt i (suc n) j (length rows) hi (omega arith)),
-            weave-at i j hi lj
-                ∙ ap₂ (λ s q. inserted s q n) ei (position-back n i p low)
-                ∙ ap₂ (λ a b. a ++ (n ∷ b)) (take-at front back p refl) (drop-at front back p refl)
-                ∙ sym e,
-          )
+          let (i, hi, ei) = just (front ++ back) .1 (permutation-less n front back (subst (Permutation (suc n)) e perm)) in
+          let (low, at) = weave-put i front back hi ei in
+          (i * suc n + position n i (length front), low, at ∙ sym e)
 
   pub weave-apart : Apart rows → Apart (woven n 0 rows)
   weave-apart apart l m hl hm e =
@@ -258,6 +276,13 @@ changes-length (suc n) = weave-length n (changes n) (changes-permutations n) ∙
 pub changes-at : (n i j : ℕ) → i < length (changes n) → j ≤ n → row-at (changes (suc n)) (i * suc n + j) ≡ inserted (row-at (changes n) i) (position n i j) n
 changes-at n = weave-at n (changes n) (changes-permutations n)
 
+-- the same by division of the label
+pub changes-row-at : (n l : ℕ) → l < length (changes (suc n)) → row-at (changes (suc n)) l ≡ inserted (row-at (changes n) (l / suc n)) (position n (l / suc n) (l % suc n)) n
+changes-row-at n l h =
+    let inside : l < length (changes n) * suc n = omega (arith, weave-length n (changes n) (changes-permutations n)) in
+    ap (row-at (changes (suc n))) (sym (div-add-mod' l (suc n)))
+    ∙ changes-at n (l / suc n) (l % suc n) (div-below l (suc n) (length (changes n)) (omega arith) inside) (omega (arith, mod-below l (suc n) (omega arith)))
+
 -- no two are the same
 pub changes-apart : (n : ℕ) → Apart (changes n)
 changes-apart zero = apart-one []
@@ -280,6 +305,21 @@ module _ (n i : ℕ) (h : i < length (changes n)) where
   -- of bytes, where n is at most 256
   pub changes-bytes : n ≤ 256 → (k : ℕ) → k < n → getD (row-at (changes n) i) k 0 ≤ 255
   changes-bytes small k l = omega (arith, permutation-below n (row-at (changes n) i) changes-row k l)
+
+-- the label of an order, by that of the order without its largest value
+pub changes-label : (n : ℕ) (front back : Row) → label-of (changes (suc n)) (front ++ (n ∷ back)) ≡ mapped (λ i. i * suc n + position n i (length front)) (label-of (changes n) (front ++ back))
+changes-label n front back = by (label-of (changes n) (front ++ back)) (label-told (changes n) (front ++ back))
+  where
+    by : (o : Option ℕ) → Told (changes n) (front ++ back) o → label-of (changes (suc n)) (front ++ (n ∷ back)) ≡ mapped (λ i. i * suc n + position n i (length front)) o
+    by (Some i) told =
+        let (low, at) = weave-put n (changes n) (changes-permutations n) i front back (told .0) (told .1) in
+        apart-label (changes (suc n)) (front ++ (n ∷ back)) (i * suc n + position n i (length front)) (changes-apart (suc n)) low at
+    by None none = label-of-missing (changes (suc n)) (front ++ (n ∷ back))
+        (λ l h e. none (changes-permutations n (front ++ back) .1 (permutation-less n front back (changes-permutations (suc n) (front ++ (n ∷ back)) .0 (l, h, e)))))
+
+-- a row that is no order has no label
+pub changes-unlabelled : (n : ℕ) (r : Row) → (Permutation n r → ⊥) → label-of (changes n) r ≡ None
+changes-unlabelled n r none = label-of-missing (changes n) r (λ l h e. none (changes-permutations n r .0 (l, h, e)))
 
 -- the laws together
 pub changes-laws : (n : ℕ) → Changes-laws n (changes n)

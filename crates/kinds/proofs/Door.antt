@@ -1,21 +1,20 @@
 -- The laws of `door`. Assumes nothing.
-use mathlib.Core.Path.{_≡_, refl, sym, ap, ap₂, _∙_}
+use mathlib.Core.Path.{_≡_, refl, sym, ap, _∙_}
 use mathlib.Core.Logic.{⊎-elim}
-use mathlib.Core.Bool.{cond, false}
+use mathlib.Core.Bool.{false}
 use mathlib.Core.List.{List, [], _∷_, _++_, reverse}
 use Prim.Native.Nat.{ℕ, zero, suc, min, _+_, _-_, _≤_, _<_}
 use native.Mathlib.Omega.{arith}
 use lib.Dec.{eqb}
-use lib.ListN.{length, getD, replicate}
-use Rattle.std.proofs.shelf.Lists.{nil-from-length, append-nil, length-append, length-map, length-reverse, getD-append-left, getD-append-add, getD-map, getD-reverse}
-use Rattle.std.proofs.shelf.Tests.{cond-both, cases-lt, ne-eqb}
-use Rattle.std.proofs.shelf.Ways.{tells}
+use lib.ListN.{length, replicate}
+use Rattle.std.proofs.shelf.Lists.{append-nil, length-append, length-map, length-reverse, getD-append-left, getD-append-add, getD-map, getD-reverse}
+use Rattle.std.proofs.shelf.Tests.{cases-lt, ne-eqb}
 use Rattle.walk.specs.Rows.{Row, row-at, differences}
 use Rattle.kinds.specs.Lists.{led-by, branches, turned, odd, ways, door}
-use Rattle.kinds.specs.Laws.{occurrences, Chosen, Apart, Stepping, Door-laws}
-use Rattle.kinds.proofs.Branches.{before, differences-same, differences-behind, differences-first, apart-branches, stepping-branches, length-turned, apart-turned, stepping-turned, turned-meets}
-use Rattle.kinds.proofs.Just.{Just, below-suc, just-leaf, just-branches, just-turned, apart-few, stepping-few, length-leaf, length-branches}
-use Rattle.kinds.proofs.Occurrences.{occurrences-cons}
+use Rattle.kinds.specs.Laws.{Within, Chosen, Apart, Stepping, Door-laws}
+use Rattle.kinds.proofs.Branches.{differences-same, differences-behind, differences-first, apart-branches, stepping-branches, length-turned, apart-turned, stepping-turned, turned-meets}
+use Rattle.kinds.proofs.Just.{Just, just-same, just-branches, just-turned, stepping-few, length-leaf, length-branches}
+use Rattle.kinds.proofs.Stock.{stock-length, stock-within, stock-apart, within-more, within-parts, within-ones}
 
 -- the rows of one value less behind the first value v
 abbrev pub door-branch : ℕ → ℕ → ℕ → List Row
@@ -32,36 +31,25 @@ door-branches n (suc t) =
 
 -- as many rows as those of `choose`
 pub door-length : (n t : ℕ) → length (door n t) ≡ ways (replicate n 1) t
-door-length zero t = grind (arith, tells)
+door-length zero t = stock-length [] t
 door-length (suc n) t = ap length (door-branches n t) ∙ length-branches (door-branch n t) (λ v. ways (replicate n 1) (t - v)) (suc (min 1 t)) (λ v h. length-turned (odd v) (door n (t - v)) ∙ door-length n (t - v))
 
--- a value 0 or 1 goes before a chosen row
-pub chosen-more : (n t v : ℕ) (r : Row) → v < suc (min 1 t) → Chosen n (t - v) r → Chosen (suc n) t (v ∷ r)
-chosen-more n t v r h c =
-    let bit : cond (eqb v 1) 1 0 ≡ v = grind (arith, tells) in
-    (ap suc (c .0), below-suc n (λ k. getD (v ∷ r) k 0 ≤ 1) (omega arith) (c .1), omega (arith, occurrences-cons 1 v r, c .2))
+-- they are the rows of n stocks of 1 with the sum t
+pub door-within : (n t : ℕ) → Just (Within (replicate n 1) t) (door n t)
+door-within zero t = stock-within [] t
+door-within (suc n) t = rw (door-branches n t) (just-branches (Within (replicate (suc n) 1) t) (suc (min 1 t)) (door-branch n t) (λ v. Within (replicate n 1) (t - v))
+    (λ v h. just-turned (Within (replicate n 1) (t - v)) (odd v) (door n (t - v)) (door-within n (t - v)))
+    (λ w. omega (arith, w .0))
+    (λ v r. within-more 1 v t (replicate n 1) r)
+    (λ v r. within-parts 1 v t (replicate n 1) r))
 
--- and parts from it
-pub chosen-parts : (n t v : ℕ) (r : Row) → Chosen (suc n) t (v ∷ r) → (v < suc (min 1 t)) × Chosen n (t - v) r
-chosen-parts n t v r c =
-    let low : v ≤ 1 = c .1 0 (omega arith) in
-    let bit : cond (eqb v 1) 1 0 ≡ v = grind (arith, tells) in
-    (omega (arith, occurrences-cons 1 v r, c .2), (omega (arith, c .0), λ k h. c .1 (suc k) (omega arith), omega (arith, occurrences-cons 1 v r, c .2)))
-
--- they are the rows of n values of which t are 1
+-- that is, of n values of which t are 1
 pub door-chosen : (n t : ℕ) → Just (Chosen n t) (door n t)
-door-chosen zero t = just-leaf (Chosen 0 t) t
-    (λ e. (refl, (λ k h. absurd (omega arith)), sym e))
-    (λ r c. let none = nil-from-length r (c .0) in (none, sym (c .2) ∙ ap (occurrences 1) none))
-door-chosen (suc n) t = rw (door-branches n t) (just-branches (Chosen (suc n) t) (suc (min 1 t)) (door-branch n t) (λ v. Chosen n (t - v))
-    (λ v h. just-turned (Chosen n (t - v)) (odd v) (door n (t - v)) (door-chosen n (t - v)))
-    (λ c. omega (arith, c .0))
-    (λ v r. chosen-more n t v r)
-    (λ v r. chosen-parts n t v r))
+door-chosen n t = just-same (Within (replicate n 1) t) (Chosen n t) (door n t) (within-ones n t) (door-within n t)
 
 -- no two are the same
 pub door-apart : (n t : ℕ) → Apart (door n t)
-door-apart zero t = apart-few (door zero t) (length-leaf (eqb t 0))
+door-apart zero t = stock-apart [] t
 door-apart (suc n) t = rw (door-branches n t) (apart-branches (door-branch n t) (suc (min 1 t)) (λ v h. apart-turned (odd v) (door n (t - v)) (door-apart n (t - v))))
 
 -- none where more are to be chosen than there are

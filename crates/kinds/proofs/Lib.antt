@@ -5,6 +5,7 @@ pub mod Door
 pub mod Entering
 pub mod Gray
 pub mod Just
+pub mod Lower
 pub mod Made
 pub mod MixedRadix
 pub mod Multinomial
@@ -15,4 +16,5 @@ pub mod ShapeLaws
 pub mod Stock
 pub mod Stretches
 pub mod Swaps
+pub mod Told
 pub mod Words

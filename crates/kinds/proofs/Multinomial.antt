@@ -1,6 +1,6 @@
 -- How many rows `words` has, and each of its branches. Assumes nothing.
 use mathlib.Core.Path.{_≡_, refl, sym, ap, ap₂, _∙_}
-use mathlib.Core.List.{List, [], _∷_}
+use mathlib.Core.List.{List, [], _∷_, _++_}
 use Prim.Native.Nat.{ℕ, zero, suc, _+_, _*_, _-_, _/_, _≤_, _<_}
 use native.Mathlib.Omega.{arith}
 use native.Mathlib.Nat.{zero-mul, add-mul, mul-assoc, mul-comm, mul-left-comm, eq-of-mul-eq-mul-right}
@@ -8,13 +8,12 @@ use native.Mathlib.Numerals.{add-one}
 use lib.ListN.{length, getD, take}
 use Rattle.std.specs.shelf.Lists.{sum}
 use Rattle.std.proofs.shelf.Bits.{div-mul-add, mul-lt}
-use Rattle.std.proofs.shelf.Lists.{take-all}
-use Rattle.std.proofs.shelf.Sums.{sumBy-more}
-use Rattle.walk.specs.Rows.{Row}
+use Rattle.std.proofs.shelf.Lists.{take-all, getD-at, set-at}
+use Rattle.std.proofs.shelf.Sums.{sumBy-more, sumBy-push}
 use Rattle.kinds.specs.Lists.{one-less, words-of, factorial}
-use Rattle.kinds.proofs.Branches.{before, before-suc}
+use Rattle.kinds.proofs.Branches.{before, before-suc, before-later}
 use Rattle.kinds.proofs.Stock.{sum-cons}
-use Rattle.kinds.proofs.Words.{words-branch, each-branch, one-less-sum}
+use Rattle.kinds.proofs.Words.{words-branch, branch-counted, each-branch, counted-below, one-less-sum}
 
 -- the product of the counts' factorials
 abbrev pub factorials : List ℕ → ℕ
@@ -87,6 +86,18 @@ words-count (suc n) counts e =
     before-count n counts (λ v. branch-count n counts v (λ some. words-count n (one-less counts v) (omega (arith, one-less-sum counts v some)))) (length counts) (omega arith)
     ∙ ap (λ x. x * factorial n) (ap sum (take-all (length counts) counts (omega arith)) ∙ e)
 
+-- so there are some
+pub words-some : (n : ℕ) (counts : List ℕ) → sum counts ≡ n → 0 < length (words-of n counts)
+words-some n counts e = some (length (words-of n counts)) (words-count n counts e)
+  where
+    some : (m : ℕ) → m * factorials counts ≡ factorial n → 0 < m
+    some zero h = absurd (omega (arith, factorial-some n, zero-mul (factorials counts), h))
+    some (suc m) h = omega arith
+
+-- and no other number does that
+pub words-length-is : (n : ℕ) (counts : List ℕ) (m : ℕ) → sum counts ≡ n → m * factorials counts ≡ factorial n → length (words-of n counts) ≡ m
+words-length-is n counts m e h = eq-of-mul-eq-mul-right (factorials counts) (factorials-some counts) (length (words-of n counts)) m (words-count n counts e ∙ sym h)
+
 module _ (n : ℕ) (counts : List ℕ) (e : sum counts ≡ suc n) where
   each-count : (v : ℕ) → length (words-branch n counts v) * factorials counts ≡ getD counts v 0 * factorial n
   each-count v = branch-count n counts v (λ some. words-count n (one-less counts v) (omega (arith, one-less-sum counts v some)))
@@ -105,3 +116,41 @@ module _ (n : ℕ) (counts : List ℕ) (e : sum counts ≡ suc n) where
 
   pub before-length : (v : ℕ) → v ≤ length counts → before (words-branch n counts) v ≡ sum (take v counts) * length (words-of (suc n) counts) / suc n
   before-length v h = quotient (suc n) (before (words-branch n counts) v) (sum (take v counts) * length (words-of (suc n) counts)) (omega arith) (before-share v h)
+
+  -- one fewer of a value
+  pub words-less : (v : ℕ) → 0 < getD counts v 0 → getD counts v 0 * length (words-of (suc n) counts) ≡ suc n * length (words-of n (one-less counts v))
+  words-less v some = sym (branch-share v) ∙ ap (λ rows. suc n * length rows) (branch-counted n counts v some)
+
+  pub words-fewer : (v : ℕ) → 0 < getD counts v 0 → length (words-of n (one-less counts v)) ≤ length (words-of (suc n) counts)
+  words-fewer v some = omega (arith, before-later (words-branch n counts) v (length counts) (counted-below counts v some), ap length (branch-counted n counts v some))
+
+-- a count of 0 at the end changes nothing
+pub factorials-push-none : (counts : List ℕ) → factorials (counts ++ (0 ∷ [])) ≡ factorials counts
+factorials-push-none [] = refl
+factorials-push-none (c ∷ counts) = ap (λ x. factorial c * x) (factorials-push-none counts)
+
+pub words-push-none : (n : ℕ) (counts : List ℕ) → sum counts ≡ n → length (words-of n (counts ++ (0 ∷ []))) ≡ length (words-of n counts)
+words-push-none n counts e = words-length-is n (counts ++ (0 ∷ [])) (length (words-of n counts)) (omega (arith, sumBy-push (λ x. x) counts 0))
+    (ap (λ x. length (words-of n counts) * x) (factorials-push-none counts) ∙ words-count n counts e)
+
+-- one more of the last count
+module _ (n c : ℕ) (counts : List ℕ) (e : sum counts + c ≡ n) where
+  push-sum : sum (counts ++ (suc c ∷ [])) ≡ suc n
+  push-sum = omega (arith, sumBy-push (λ x. x) counts (suc c))
+
+  push-last : getD (counts ++ (suc c ∷ [])) (length counts) 0 ≡ suc c
+  push-last = getD-at counts (suc c) [] 0 (length counts) refl
+
+  push-less : one-less (counts ++ (suc c ∷ [])) (length counts) ≡ counts ++ (c ∷ [])
+  push-less =
+      let less : getD (counts ++ (suc c ∷ [])) (length counts) 0 - 1 ≡ c = omega (arith, push-last) in
+      set-at counts (suc c) [] (getD (counts ++ (suc c ∷ [])) (length counts) 0 - 1) (length counts) refl ∙ ap (λ x. counts ++ (x ∷ [])) less
+
+  pub words-push : suc c * length (words-of (suc n) (counts ++ (suc c ∷ []))) ≡ suc n * length (words-of n (counts ++ (c ∷ [])))
+  words-push =
+      ap (λ x. x * length (words-of (suc n) (counts ++ (suc c ∷ [])))) (sym push-last)
+      ∙ words-less n (counts ++ (suc c ∷ [])) push-sum (length counts) (omega (arith, push-last))
+      ∙ ap (λ less. suc n * length (words-of n less)) push-less
+
+  pub words-push-more : length (words-of n (counts ++ (c ∷ []))) ≤ length (words-of (suc n) (counts ++ (suc c ∷ [])))
+  words-push-more = omega (arith, words-fewer n (counts ++ (suc c ∷ [])) push-sum (length counts) (omega (arith, push-last)), ap (λ less. length (words-of n less)) push-less)

@@ -1,14 +1,12 @@
 -- Where the branches of `stock`, `door` and `words` stand, by their counts. Assumes nothing.
 use mathlib.Core.Path.{_≡_, refl, sym, ap, subst, subst₂, _∙_}
-use mathlib.Core.Logic.{⊎-elim}
-use mathlib.Core.Bool.{Bool, false, cond}
+use mathlib.Core.Bool.{Bool, false}
 use mathlib.Core.List.{List, [], _∷_}
 use Prim.Native.Nat.{ℕ, zero, suc, min, _+_, _*_, _-_, _/_, _≤_, _<_}
 use native.Mathlib.Omega.{arith}
-use lib.Dec.{eqb}
 use lib.ListN.{length, getD, take, replicate}
 use Rattle.std.specs.shelf.Lists.{sum}
-use Rattle.std.proofs.shelf.Tests.{eq-eqb, ne-eqb, cases-lt}
+use Rattle.std.proofs.shelf.Tests.{eq-eqb}
 use Rattle.walk.specs.Rows.{Row, row-at}
 use Rattle.kinds.specs.Lists.{branches, odd, total, stock, ways, door, one-less, words-of}
 use Rattle.kinds.specs.Tree.{Stands}
@@ -18,7 +16,7 @@ use Rattle.kinds.proofs.Entering.{branch-stands, branch-outside}
 use Rattle.kinds.proofs.Just.{length-branches}
 use Rattle.kinds.proofs.Multinomial.{branch-length, before-length}
 use Rattle.kinds.proofs.Stock.{stock-branch, stock-length}
-use Rattle.kinds.proofs.Words.{words-branch, counted-below}
+use Rattle.kinds.proofs.Words.{words-branch, branch-counted, counted-below}
 
 -- no row begins with v
 abbrev pub Nowhere : List Row → ℕ → Type 0
@@ -112,11 +110,8 @@ words-before m n counts v = sum (take v counts) * m / n
 abbrev pub words-behind : ℕ → ℕ → List ℕ → ℕ → ℕ
 words-behind m n counts v = getD counts v 0 * m / n
 
--- the branch of a value that has a count
-pub branch-counted : (n : ℕ) (counts : List ℕ) (v : ℕ) → 0 < getD counts v 0 → words-branch n counts v ≡ words-of n (one-less counts v)
-branch-counted n counts v some = rw (ne-eqb (getD counts v 0) 0 (λ e. omega arith))
-
 module _ (n : ℕ) (counts : List ℕ) (e : sum counts ≡ suc n) (v : ℕ) where
+  -- the branch of a value that has a count
   pub words-enters : 0 < getD counts v 0 → Stands (words-of (suc n) counts) (v ∷ []) (record { from = words-before (length (words-of (suc n) counts)) (suc n) counts v; count = words-behind (length (words-of (suc n) counts)) (suc n) counts v; backward = false }) (words-of n (one-less counts v))
   words-enters some =
       let inside = counted-below counts v some in

@@ -1,15 +1,13 @@
 -- Rows in which two neighbouring values are exchanged. Assumes nothing.
 use mathlib.Core.Path.{_≡_, refl, sym, ap, ap₂, _∙_}
-use mathlib.Core.List.{List, [], _∷_, _++_}
-use Prim.Native.Nat.{ℕ, zero, suc, _+_, _≤_, _<_}
+use mathlib.Core.List.{[], _∷_, _++_}
+use Prim.Native.Nat.{ℕ, zero, suc, _+_, _<_}
 use native.Mathlib.Omega.{arith}
-use native.Mathlib.Numerals.{add-one}
-use lib.ListN.{length, getD, set, take, drop}
-use lib.Seq.{drop-cons, take-suc}
+use lib.ListN.{length, getD, set}
 use Rattle.std.specs.shelf.Lists.{inserted, exchanged}
 use Rattle.std.proofs.shelf.Lists.{append-assoc, length-append, getD-at, set-at}
 use Rattle.std.proofs.shelf.Edits.{exchanged-is}
-use Rattle.walk.specs.Rows.{Row, row-at, differences}
+use Rattle.walk.specs.Rows.{Row, differences}
 use Rattle.kinds.specs.Laws.{Exchange}
 use Rattle.kinds.proofs.Branches.{differences-same, differences-behind, differences-first}
 

@@ -1,30 +1,30 @@
 -- The laws of `words`, and how many rows its branches have. Assumes nothing.
-use mathlib.Core.Path.{_≡_, refl, sym, ap, ap₂, _∙_}
+use mathlib.Core.Path.{_≡_, refl, sym, _∙_}
 use mathlib.Core.Logic.{⊎-elim}
 use mathlib.Core.Bool.{cond}
 use mathlib.Core.List.{List, [], _∷_}
-use Prim.Native.Nat.{ℕ, zero, suc, _+_, _*_, _-_, _/_, _≤_, _<_}
+use Prim.Native.Nat.{ℕ, zero, suc, _+_, _-_, _≤_, _<_}
 use native.Mathlib.Omega.{arith}
-use native.Mathlib.Nat.{zero-mul, add-mul, mul-assoc, mul-comm, mul-left-comm, eq-of-mul-eq-mul-right}
-use native.Mathlib.Numerals.{add-one}
 use lib.Dec.{eqb}
-use lib.ListN.{length, getD, set, take}
+use lib.ListN.{length, getD}
 use Rattle.std.specs.shelf.Lists.{sum}
-use Rattle.std.proofs.shelf.Bits.{div-mul-add, mul-lt}
-use Rattle.std.proofs.shelf.Lists.{nil-from-length, getD-set-same, getD-set-other, getD-past, take-all}
-use Rattle.std.proofs.shelf.Sums.{sumBy-set, sumBy-more, getD-le-sumBy}
-use Rattle.std.proofs.shelf.Tests.{eqb-true, eqb-false, cond-both, cases-lt, cases-eq}
+use Rattle.std.proofs.shelf.Lists.{nil-from-length, getD-set-same, getD-set-other, getD-past}
+use Rattle.std.proofs.shelf.Sums.{sumBy-set, getD-le-sumBy}
+use Rattle.std.proofs.shelf.Tests.{eqb-true, eqb-false, ne-eqb, cond-both, cases-lt, cases-eq}
 use Rattle.walk.specs.Rows.{Row, row-at}
-use Rattle.kinds.specs.Lists.{branches, one-less, words-of, words, factorial}
-use Rattle.kinds.specs.Laws.{Listed, occurrences, Spells, Apart, Rising, Words-laws}
-use Rattle.kinds.proofs.Branches.{before, before-suc, apart-one, apart-branches, rising-branches}
+use Rattle.kinds.specs.Lists.{one-less, words-of, words}
+use Rattle.kinds.specs.Laws.{Spells, Apart, Rising, Words-laws}
+use Rattle.kinds.proofs.Branches.{apart-one, apart-branches, rising-branches}
 use Rattle.kinds.proofs.Just.{Just, just-row, just-same, just-empty, just-branches, apart-few, rising-few}
 use Rattle.kinds.proofs.Occurrences.{counts-as, counts-same, counts-other, occurrences-cons, occurs}
-use Rattle.kinds.proofs.Stock.{sum-cons}
 
 -- the rows of one value less behind the first value v
 abbrev pub words-branch : ℕ → List ℕ → ℕ → List Row
 words-branch n counts v = cond (eqb (getD counts v 0) 0) [] (words-of n (one-less counts v))
+
+-- the branch of a value that has a count
+pub branch-counted : (n : ℕ) (counts : List ℕ) (v : ℕ) → 0 < getD counts v 0 → words-branch n counts v ≡ words-of n (one-less counts v)
+branch-counted n counts v some = rw (ne-eqb (getD counts v 0) 0 (λ e. omega arith))
 
 -- what holds of no rows, and where v has a count of the rows of one less of it, holds of the branch v
 pub each-branch : (P : List Row → Type 0) (n : ℕ) (counts : List ℕ) (v : ℕ) → (getD counts v 0 ≡ 0 → P []) → (0 < getD counts v 0 → P (words-of n (one-less counts v))) → P (words-branch n counts v)

@@ -51,7 +51,7 @@ ways (most ∷ stocks) t = total (suc (min most t)) (λ v. ways stocks (t - v))
 abbrev pub choose : ℕ → ℕ → List Row
 choose n t = stock (replicate n 1) t
 
--- `door`: the same rows, those that begin with 1 backward
+-- `door`: the same rows; behind a first value 1 they run backward
 abbrev pub door : ℕ → ℕ → List Row
 door zero t = cond (eqb t 0) ([] ∷ []) []
 door (suc n) zero = led-by 0 (door n zero)
@@ -75,8 +75,7 @@ abbrev pub sweep : ℕ → Row → List Row
 sweep v [] = (v ∷ []) ∷ []
 sweep v (x ∷ r) = led-by x (sweep v r) ++ ((v ∷ x ∷ r) ∷ [])
 
--- v put into each of the rows, to the left in the first and every second after it, to the right in the others; k is the
--- number of rows before these
+-- v swept through each of the rows, alternately to the left and to the right; k rows came before these
 abbrev pub woven : ℕ → ℕ → List Row → List Row
 woven v k [] = []
 woven v k (r ∷ rows) = turned (odd k) (sweep v r) ++ woven v (suc k) rows
