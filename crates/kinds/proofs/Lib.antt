@@ -3,6 +3,7 @@ pub mod Changes
 pub mod Digits
 pub mod Door
 pub mod Entering
+pub mod Fronts
 pub mod Gray
 pub mod Just
 pub mod Lower
@@ -12,6 +13,7 @@ pub mod Multinomial
 pub mod Nodes
 pub mod Occurrences
 pub mod Radices
+pub mod RowSums
 pub mod ShapeLaws
 pub mod Stock
 pub mod Stretches

@@ -6,10 +6,9 @@ use Prim.Native.Nat.{ℕ, _+_, _-_, _*_, _/_, _%_, _≤_, _<_}
 use native.Mathlib.Nat.{le-of-lt, mul-le-mul-right}
 use native.Mathlib.Omega.{arith}
 use lib.Dec.{leb, eqb}
-use lib.ListN.{length, getD, take, drop, length-drop}
+use lib.ListN.{length, getD}
 use Rattle.std.proofs.shelf.Tests.{and-parts, leb-true, eqb-true}
 use Rattle.std.proofs.shelf.Bits.{div-below}
-use Rattle.std.proofs.shelf.Lists.{take-rest}
 use Rattle.walk.specs.Rows.{Row, row-at}
 use Rattle.kinds.specs.Lists.{branches, turned, odd, product, digits, gray}
 use Rattle.kinds.specs.Shapes.{radices, mixed, levels-hold}
@@ -17,6 +16,7 @@ use Rattle.kinds.specs.Tree.{Stands}
 use Rattle.kinds.specs.declared.shape.Level.{Level}
 use Rattle.kinds.proofs.Branches.{before, length-uniform, length-turned, row-uniform}
 use Rattle.kinds.proofs.Digits.{digits-length}
+use Rattle.kinds.proofs.Fronts.{rest-of, rest-is}
 use Rattle.kinds.proofs.Gray.{gray-length}
 use Rattle.kinds.proofs.Entering.{branch-stands, branch-outside}
 
@@ -91,10 +91,6 @@ module _ (reflected : Bool) (l : Level) (ls : List Level) (hold : levels-hold (l
         ),
       )
 
--- the levels after the first, as `&levels[1..]` has them
-abbrev pub rest-of : List Level → List Level
-rest-of levels = take (length levels - 1) (drop 1 levels)
-
 abbrev no-level : Level
 no-level = record { radix = 0; below = 0 }
 
@@ -102,19 +98,16 @@ no-level = record { radix = 0; below = 0 }
 abbrev pub front : List Level → Level
 front levels = getD levels 0 no-level
 
-pub rest-length : (levels : List Level) → 0 < length levels → length levels ≡ length (rest-of levels) + 1
-rest-length levels some = simp (take-rest, length-drop) (omega arith)
-
 -- with the first level taken off, the others still hold
 pub rest-holds : (levels : List Level) → 0 < length levels → levels-hold levels ≡ true → levels-hold (rest-of levels) ≡ true
 rest-holds [] some hold = absurd (omega arith)
-rest-holds (l ∷ ls) some hold = ap levels-hold (take-rest (l ∷ ls) 1) ∙ first-level l ls hold .rest
+rest-holds (l ∷ ls) some hold = ap levels-hold (rest-is l ls) ∙ first-level l ls hold .rest
 
 -- and have no more rows than all
 pub rest-few : (levels : List Level) (cap : ℕ) → 0 < length levels → levels-hold levels ≡ true → product (radices levels) ≤ cap → product (radices (rest-of levels)) ≤ cap
 rest-few [] cap some hold few = absurd (omega arith)
 rest-few (l ∷ ls) cap some hold few =
-    subst (λ rest. product (radices rest) ≤ cap) (sym (take-rest (l ∷ ls) 1))
+    subst (λ rest. product (radices rest) ≤ cap) (sym (rest-is l ls))
     (omega (arith, mul-le-mul-right (product (radices ls)) (first-level l ls hold .some)))
 
 -- the rows before a branch are some of all rows
@@ -128,7 +121,7 @@ pub levels-enter : (reflected : Bool) (levels : List Level) (v : ℕ) → 0 < le
 levels-enter reflected [] v some hold lt = absurd (omega arith)
 levels-enter reflected (l ∷ ls) v some hold lt =
     subst (λ rest. Stands (mixed reflected (radices (l ∷ ls))) (v ∷ []) (record { from = v * l .below; count = l .below; backward = reflected && odd v }) (mixed reflected (radices rest)))
-    (sym (take-rest (l ∷ ls) 1)) (radix-enters reflected l ls hold v lt)
+    (sym (rest-is l ls)) (radix-enters reflected l ls hold v lt)
 
 -- no branch for a larger value
 pub levels-outside : (reflected : Bool) (levels : List Level) (v : ℕ) → 0 < length levels → levels-hold levels ≡ true → front levels .radix ≤ v → (i : ℕ) (r : Row) → i < length (mixed reflected (radices levels)) → row-at (mixed reflected (radices levels)) i ≡ v ∷ r → ⊥

@@ -1,3 +1,4 @@
+pub mod Bins
 pub mod Counts
 pub mod Kinds
 pub mod Laws

@@ -4,4 +4,5 @@ mod labels;
 mod radix;
 mod shape;
 mod stretch;
+mod sums;
 mod tree;

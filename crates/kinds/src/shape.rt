@@ -7,6 +7,13 @@ pub struct Level {
     pub below: u32,
 }
 
+// One stock, and for each sum up to 32 how many rows the stocks after it have with that sum, counted up to 2^32.
+#[derive(Clone, Copy)]
+pub struct Bin {
+    pub most: u8,
+    pub ways: [u64; 33],
+}
+
 #[derive(Drop)]
 pub enum Shape {
     Digits(Vec<Level>),

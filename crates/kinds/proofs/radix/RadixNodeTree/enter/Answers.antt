@@ -7,7 +7,8 @@ use borrow.Author.Needs.{needs}
 use Rattle.kinds.specs.Lists.{odd}
 use Rattle.kinds.specs.Shapes.{radices, mixed}
 use Rattle.kinds.specs.Tree.{Stands}
-use Rattle.kinds.proofs.MixedRadix.{front, rest-of, rest-length, rest-holds, rest-few, before-few, levels-enter, levels-outside}
+use Rattle.kinds.proofs.Fronts.{rest-of, rest-length}
+use Rattle.kinds.proofs.MixedRadix.{front, rest-holds, rest-few, before-few, levels-enter, levels-outside}
 use Rattle.kinds.proofs.radix.RadixNodeTree.enter.Needs as need
 
 pub ghost-self : need.ghost-self
