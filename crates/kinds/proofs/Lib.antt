@@ -19,4 +19,5 @@ pub mod Stock
 pub mod Stretches
 pub mod Swaps
 pub mod Told
+pub mod WayCounts
 pub mod Words

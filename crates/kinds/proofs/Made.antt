@@ -17,7 +17,8 @@ use Rattle.walk.specs.Rows.{Row}
 use Rattle.walk.specs.Meaning.{Meaning}
 use Rattle.kinds.specs.Counts.{Tabled}
 use Rattle.walk.specs.Making.{new-walk, Makes}
-use Rattle.kinds.specs.Kinds.{making, all-between, radices-fit}
+use Rattle.kinds.specs.Kinds.{making, radices-fit}
+use Rattle.kinds.specs.Ranges.{all-between}
 use Rattle.kinds.specs.Lists.{product}
 use Rattle.kinds.specs.Shapes.{radices, mixed, levels-of, levels-hold}
 use Rattle.walk.specs.declared.making.MakingFault.{MakingFault}

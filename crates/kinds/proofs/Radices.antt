@@ -14,7 +14,7 @@ use Rattle.std.proofs.shelf.Ways.{tells}
 use Rattle.std.specs.declared.option.Option.{Option}
 use Rattle.std.specs.declared.option.Option.the-variants.{Some, None}
 use Rattle.kinds.specs.Counts.{counted}
-use Rattle.kinds.specs.Kinds.{all-between}
+use Rattle.kinds.specs.Ranges.{all-between}
 use Rattle.kinds.specs.Lists.{product}
 use Rattle.kinds.specs.Shapes.{radices, levels-of, levels-hold}
 use Rattle.kinds.specs.declared.shape.Level.{Level}

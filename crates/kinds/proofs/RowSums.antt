@@ -7,12 +7,11 @@ use Prim.Native.Nat.{ℕ, zero, suc, min, _+_, _-_, _≤_, _<_}
 use native.Mathlib.Omega.{arith}
 use lib.Dec.{leb}
 use lib.ListN.{length, getD, replicate}
-use Rattle.std.specs.Iters.{counting}
-use Rattle.std.proofs.shelf.Counted.{getD-map-counting, length-map-counting}
 use Rattle.std.proofs.shelf.Tests.{and-parts, leb-true, cases-lt}
-use Rattle.walk.specs.Rows.{Row, row-at, odd}
-use Rattle.kinds.specs.Bins.{mosts, capped, capped-ways, bins-of, filled}
-use Rattle.kinds.specs.Kinds.{all-between}
+use Rattle.walk.specs.Rows.{Row, row-at, odd, same-row}
+use Rattle.walk.proofs.Differences.{equal-from-same}
+use Rattle.kinds.specs.Bins.{mosts, capped-ways, bins-hold, filled}
+use Rattle.kinds.specs.Ranges.{all-between}
 use Rattle.kinds.specs.Lists.{stock, door, ways, total}
 use Rattle.kinds.specs.Tree.{Stands}
 use Rattle.kinds.specs.declared.shape.Bin.{Bin}
@@ -21,6 +20,7 @@ use Rattle.kinds.proofs.Door.{door-length}
 use Rattle.kinds.proofs.Fronts.{rest-of, rest-is}
 use Rattle.kinds.proofs.Nodes.{Nowhere, Begins, ways-before, stock-enters, stock-outside, stock-picks, ways-within, door-enters, door-outside, door-picks}
 use Rattle.kinds.proofs.Stock.{stock-length}
+use Rattle.kinds.proofs.WayCounts.{ways-at}
 
 -- sums of the same numbers are the same
 pub total-same : (f g : ℕ → ℕ) (m : ℕ) → ((v : ℕ) → v < m → f v ≡ g v) → total m f ≡ total m g
@@ -102,26 +102,21 @@ front bins = getD bins 0 no-bin
 pub record First (bins : List Bin) : Type 0 where
   pub stocks : mosts bins ≡ front bins .most ∷ mosts (rest-of bins)
   pub counts : front bins .ways ≡ capped-ways (mosts (rest-of bins))
-  pub rest : rest-of bins ≡ bins-of (mosts (rest-of bins))
+  pub rest : bins-hold (rest-of bins) ≡ true
 
-pub first-bin : (bins : List Bin) → 0 < length bins → bins ≡ bins-of (mosts bins) → First bins
+pub first-bin : (bins : List Bin) → 0 < length bins → bins-hold bins ≡ true → First bins
 first-bin [] some hold = absurd (omega arith)
 first-bin (b ∷ bs) some hold =
-    let bin : b ≡ record { most = b .most; ways = capped-ways (mosts bs) } = cc in
-    let behind : bs ≡ bins-of (mosts bs) = cc in
+    let parts = and-parts (same-row (b .ways) (capped-ways (mosts bs))) (bins-hold bs) hold in
     record {
       stocks = ap (λ rest. b .most ∷ mosts rest) (sym (rest-is b bs));
-      counts = ap (λ x. x .ways) bin ∙ ap (λ rest. capped-ways (mosts rest)) (sym (rest-is b bs));
-      rest = rest-is b bs ∙ behind ∙ ap (λ rest. bins-of (mosts rest)) (sym (rest-is b bs));
+      counts = equal-from-same (b .ways) (capped-ways (mosts bs)) (parts .0) ∙ ap (λ rest. capped-ways (mosts rest)) (sym (rest-is b bs));
+      rest = ap bins-hold (rest-is b bs) ∙ parts .1;
     }
 
 -- a count that a walk may have is exact
 pub count-exact : (stocks : List ℕ) (t : ℕ) → t ≤ 32 → ways stocks t ≤ 4294967295 → getD (capped-ways stocks) t 0 ≡ ways stocks t
-count-exact stocks t small few = getD-map-counting (λ s. capped (ways stocks s)) 0 33 t t 0 (omega arith) (omega arith) ∙ omega arith
-
--- the length of each table of counts
-pub counts-length : (stocks : List ℕ) → length (capped-ways stocks) ≡ 33
-counts-length stocks = length-map-counting (λ s. capped (ways stocks s)) 0 33
+count-exact stocks t small few = ways-at stocks t (omega arith) ∙ omega arith
 
 module _ (self : StockNode) (bin : 0 < length (self .bins .now)) where
   abbrev bins : List Bin

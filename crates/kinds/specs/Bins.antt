@@ -1,6 +1,6 @@
 -- Stocks with the counts of the rows behind them. Assumes nothing.
 use mathlib.Core.Path.{_≡_, refl, _∙_}
-use mathlib.Core.Bool.{Bool, true, false, cond}
+use mathlib.Core.Bool.{Bool, true, false, cond, _&&_}
 use mathlib.Core.List.{List, [], _∷_, map}
 use Prim.Native.Nat.{ℕ, zero, suc, min, _<_}
 use native.Mathlib.Omega.{arith}
@@ -8,7 +8,7 @@ use Rattle.std.proofs.shelf.Tests.{ne-eqb, cond-false}
 use lib.Dec.{eqb}
 use lib.ListN.{length, length-map}
 use Rattle.std.specs.Iters.{counting}
-use Rattle.walk.specs.Rows.{Row}
+use Rattle.walk.specs.Rows.{Row, same-row}
 use Rattle.kinds.specs.Lists.{stock, door, ways}
 use Rattle.kinds.specs.declared.shape.Bin.{Bin}
 
@@ -21,13 +21,18 @@ abbrev pub capped : ℕ → ℕ
 capped n = min n 4294967296
 
 -- the capped counts of the rows of the stocks with the sums 0 to 32
-abbrev pub capped-ways : List ℕ → List ℕ
+unfoldable pub capped-ways : List ℕ → List ℕ
 capped-ways stocks = map (λ (t : ℕ). capped (ways stocks t)) (counting 0 33)
 
 -- each stock with the counts of the stocks after it
 abbrev pub bins-of : List ℕ → List Bin
 bins-of [] = []
 bins-of (most ∷ stocks) = record { most = most; ways = capped-ways stocks } ∷ bins-of stocks
+
+-- the bins have the counts of the stocks behind them
+abbrev pub bins-hold : List Bin → Bool
+bins-hold [] = true
+bins-hold (b ∷ bs) = same-row (b .ways) (capped-ways (mosts bs)) && bins-hold bs
 
 -- the rows with a sum: those of `door` where the rows after an odd value run backward, which is asked of stocks of 1 alone
 abbrev pub filled : Bool → List ℕ → ℕ → List Row

@@ -10,6 +10,7 @@ use Rattle.walk.specs.Rows.{Row}
 use Rattle.walk.specs.Meaning.{Meaning}
 use Rattle.walk.specs.Making.{new-walk}
 use Rattle.kinds.specs.Lists.{digits, gray}
+use Rattle.kinds.specs.Ranges.{all-between}
 use Rattle.kinds.specs.Shapes.{rows-of, width-of, steady-of}
 use Rattle.walk.specs.declared.making.MakingFault.{MakingFault}
 use Rattle.walk.specs.declared.making.MakingFault.the-variants.{OutOfRange, TooManyRows}
@@ -21,10 +22,6 @@ kind-meaning k = record { rows = rows-of (k .shape); width = width-of (k .shape)
 -- Making refuses numbers that do not fit their ranges, and then more rows than a walk may have.
 abbrev pub making : Bool → List Row → ℕ → Bool → Result Meaning MakingFault
 making fit rows width steady = cond fit (cond (leb (length rows) 4294967295) (Ok (new-walk rows width steady)) (Err TooManyRows)) (Err OutOfRange)
-
-abbrev pub all-between : ℕ → ℕ → List ℕ → Bool
-all-between low high [] = true
-all-between low high (x ∷ xs) = leb low x && (leb x high && all-between low high xs)
 
 -- n radices, up to 32, each from 1 to 255
 abbrev pub radices-fit : ℕ → List ℕ → Bool

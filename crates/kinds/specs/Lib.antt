@@ -3,5 +3,6 @@ pub mod Counts
 pub mod Kinds
 pub mod Laws
 pub mod Lists
+pub mod Ranges
 pub mod Shapes
 pub mod Tree

@@ -8,10 +8,13 @@ use lib.Dec.{eqb, leb}
 use lib.ListN.{length}
 use Rattle.std.specs.Of.Vec.{vec-items}
 use Rattle.walk.specs.Rows.{Row}
-use Rattle.kinds.specs.Lists.{product, digits, gray}
+use Rattle.kinds.specs.Bins.{mosts, bins-hold}
+use Rattle.kinds.specs.Lists.{product, digits, gray, stock, door}
+use Rattle.kinds.specs.Ranges.{all-between}
+use Rattle.kinds.specs.declared.shape.Bin.{Bin}
 use Rattle.kinds.specs.declared.shape.Level.{Level}
 use Rattle.kinds.specs.declared.shape.Shape.{Shape}
-use Rattle.kinds.specs.declared.shape.Shape.the-variants.{Digits, Gray}
+use Rattle.kinds.specs.declared.shape.Shape.the-variants.{Digits, Gray, Stock, Door}
 
 abbrev pub radices : List Level → List ℕ
 radices levels = map (λ (l : Level). l .radix) levels
@@ -40,17 +43,29 @@ levels-hold (l ∷ ls) = leb 1 (l .radix) && (leb (l .radix) 255 && (eqb (l .bel
 abbrev pub rows-of : Shape → List Row
 rows-of (Digits levels) = digits (radices (vec-items levels))
 rows-of (Gray levels) = gray (radices (vec-items levels))
+rows-of (Stock bins t) = stock (mosts (vec-items bins)) t
+rows-of (Door bins t) = door (length (mosts (vec-items bins))) t
 
 abbrev pub width-of : Shape → ℕ
 width-of (Digits levels) = length (vec-items levels)
 width-of (Gray levels) = length (vec-items levels)
+width-of (Stock bins t) = length (vec-items bins)
+width-of (Door bins t) = length (vec-items bins)
 
 -- a kind's name decides whether it is steady
 abbrev pub steady-of : Shape → Bool
 steady-of (Digits levels) = false
 steady-of (Gray levels) = true
+steady-of (Stock bins t) = false
+steady-of (Door bins t) = true
+
+-- up to 32 stocks, each up to 32, and a sum up to 32
+abbrev pub sums-hold : List Bin → ℕ → Bool
+sums-hold bins t = bins-hold bins && (leb (length bins) 32 && (all-between 0 32 (mosts bins) && leb t 32))
 
 -- the counts in a shape are right, and its numbers within their ranges
 abbrev pub shape-holds : Shape → Bool
 shape-holds (Digits levels) = leb (length (vec-items levels)) 32 && levels-hold (vec-items levels)
 shape-holds (Gray levels) = leb (length (vec-items levels)) 32 && levels-hold (vec-items levels)
+shape-holds (Stock bins t) = sums-hold (vec-items bins) t
+shape-holds (Door bins t) = all-between 1 1 (mosts (vec-items bins)) && sums-hold (vec-items bins) t

@@ -8,6 +8,8 @@ ghost use Rattle.kinds.specs.Shapes.{rows-of, width-of, steady-of, shape-holds
 use super::radix::RadixNode;
 use super::radix::RadixNodeTree;
 use super::shape::Shape;
+use super::sums::StockNode;
+use super::sums::StockNodeTree;
 use super::tree::find_row;
 use super::tree::write_row;
 
@@ -19,6 +21,8 @@ impl Shape {
         match self {
             Shape::Digits(_) => false,
             Shape::Gray(_) => true,
+            Shape::Stock(_, _) => false,
+            Shape::Door(_, _) => true,
         }
     }
 
@@ -33,6 +37,8 @@ impl Shape {
         match self {
             Shape::Digits(levels) => write_row(RadixNode::new(levels, false), label, tray),
             Shape::Gray(levels) => write_row(RadixNode::new(levels, true), label, tray),
+            Shape::Stock(bins, sum) => write_row(StockNode::new(bins, *sum, false), label, tray),
+            Shape::Door(bins, sum) => write_row(StockNode::new(bins, *sum, true), label, tray),
         }
     }
 
@@ -43,9 +49,14 @@ impl Shape {
         requires wide { ⌜ length (now row) ≡ width-of (now self) ⌝ }
         ensures { λ r. ⌜ r ≡ label-of (rows-of (now (self .entry))) (now (row .entry)) ⌝ }
     {
+        if size == 0 {
+            return None;
+        }
         match self {
             Shape::Digits(levels) => find_row(RadixNode::new(levels, false), size, row),
             Shape::Gray(levels) => find_row(RadixNode::new(levels, true), size, row),
+            Shape::Stock(bins, sum) => find_row(StockNode::new(bins, *sum, false), size, row),
+            Shape::Door(bins, sum) => find_row(StockNode::new(bins, *sum, true), size, row),
         }
     }
 }

@@ -6,3 +6,4 @@ mod shape;
 mod stretch;
 mod sums;
 mod tree;
+mod ways;

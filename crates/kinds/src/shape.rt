@@ -18,4 +18,8 @@ pub struct Bin {
 pub enum Shape {
     Digits(Vec<Level>),
     Gray(Vec<Level>),
+    // `stock` and `choose`: the stocks, and the sum of a row
+    Stock(Vec<Bin>, u8),
+    // stocks of 1, and the sum of a row
+    Door(Vec<Bin>, u8),
 }

@@ -4,8 +4,8 @@ ghost use mathlib.Core.Bool.{true, not, _||_};
 ghost use Prim.Native.Nat.{_+_, _-_, _≤_, _<_};
 ghost use lib.ListN.{length, getD};
 ghost use denote.Ref.{now};
-ghost use Rattle.kinds.specs.Bins.{mosts, bins-of, capped-ways, filled, node-leaf};
-ghost use Rattle.kinds.specs.Kinds.{all-between};
+ghost use Rattle.kinds.specs.Bins.{mosts, bins-hold, filled, node-leaf};
+ghost use Rattle.kinds.specs.Ranges.{all-between};
 ghost use Rattle.kinds.specs.Lists.{ways, total};
 use super::shape::Bin;
 use super::stretch::Stretch;
@@ -17,7 +17,7 @@ pub struct StockNode<'a> {
     bins: &'a [Bin],
     left: u8,
     reflected: bool,
-    ghost hold: { now bins ≡ bins-of (mosts (now bins)) },
+    ghost hold: { bins-hold (now bins) ≡ true },
     ghost small: { left ≤ 32 },
     ghost few: { ways (mosts (now bins)) left ≤ 4294967295 },
     ghost some: { 0 < ways (mosts (now bins)) left },
@@ -41,7 +41,7 @@ fn rows_before(bin: &Bin, left: u8, value: u8) -> u64
 impl<'a> StockNode<'a> {
     // The node above all rows of the stocks with a sum.
     pub fn new(bins: &'a [Bin], left: u8, reflected: bool) -> StockNode<'a>
-        requires hold { ⌜ now bins ≡ bins-of (mosts (now bins)) ⌝ }
+        requires hold { ⌜ bins-hold (now bins) ≡ true ⌝ }
         requires small { ⌜ left ≤ 32 ⌝ }
         requires few { ⌜ ways (mosts (now bins)) left ≤ 4294967295 ⌝ }
         requires some { ⌜ 0 < ways (mosts (now bins)) left ⌝ }

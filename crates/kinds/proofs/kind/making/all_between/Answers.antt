@@ -4,7 +4,7 @@ use Prim.Native.Nat.{_+_}
 use native.Mathlib.Omega.{arith}
 use lib.ListN.{drop}
 use Rattle.std.proofs.shelf.Lists.{at-drop-more, at-drop-all}
-use Rattle.kinds.specs.Kinds.{all-between}
+use Rattle.kinds.specs.Ranges.{all-between}
 use Rattle.kinds.proofs.Radices.{outside, inside}
 use Rattle.kinds.proofs.kind.making.all_between.Needs as need
 use Rattle.kinds.proofs.kind.making.all_between.Needs.{then-x-low·by·then-x-low, then-x-low·by·else-x-low·then-x-high}

@@ -1,6 +1,6 @@
 use mathlib.Core.Path.{_≡_}
 use lib.ListN.{drop}
-use Rattle.kinds.specs.Kinds.{all-between}
+use Rattle.kinds.specs.Ranges.{all-between}
 use Rattle.kinds.proofs.kind.making.all_between.Given as given
 
 abbrev pub Inv-loop-x : given.InvT-loop-x

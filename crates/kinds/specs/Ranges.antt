@@ -1,0 +1,10 @@
+-- Numbers within a range. Assumes nothing.
+use mathlib.Core.Bool.{Bool, true, _&&_}
+use mathlib.Core.List.{List, [], _∷_}
+use Prim.Native.Nat.{ℕ}
+use lib.Dec.{leb}
+
+-- each number of the list is from low to high
+abbrev pub all-between : ℕ → ℕ → List ℕ → Bool
+all-between low high [] = true
+all-between low high (x ∷ xs) = leb low x && (leb x high && all-between low high xs)
