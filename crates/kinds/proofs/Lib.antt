@@ -10,6 +10,7 @@ pub mod MixedRadix
 pub mod Multinomial
 pub mod Nodes
 pub mod Occurrences
+pub mod PlainChanges
 pub mod Radices
 pub mod ShapeLaws
 pub mod Stock
