@@ -12,6 +12,7 @@ pub mod MixedRadix
 pub mod Multinomial
 pub mod Nodes
 pub mod Occurrences
+pub mod PlainChanges
 pub mod Radices
 pub mod RowSums
 pub mod ShapeLaws
