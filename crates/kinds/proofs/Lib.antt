@@ -15,4 +15,6 @@ pub mod ShapeLaws
 pub mod Stock
 pub mod Stretches
 pub mod Swaps
+pub mod WordCounts
+pub mod WordTree
 pub mod Words

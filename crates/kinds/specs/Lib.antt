@@ -4,3 +4,4 @@ pub mod Laws
 pub mod Lists
 pub mod Shapes
 pub mod Tree
+pub mod WordNodes
