@@ -1,5 +1,5 @@
 -- How many words there are as counts are added. Assumes nothing.
-use mathlib.Core.Path.{_≡_, refl, sym, ap, subst, _∙_}
+use mathlib.Core.Path.{_≡_, refl, sym, ap, ap₂, subst, _∙_}
 use mathlib.Core.Logic.{⊎-elim}
 use mathlib.Core.List.{List, [], _∷_, _++_}
 use Prim.Native.Nat.{ℕ, zero, suc, _+_, _*_, _/_, _≤_, _<_}
@@ -7,11 +7,15 @@ use native.Mathlib.Omega.{arith}
 use native.Mathlib.Nat.{zero-mul, mul-assoc, mul-comm, mul-left-comm, mul-right-comm, mul-mul-mul-comm, mul-one, eq-of-mul-eq-mul-right, mul-le-mul-left, le-of-mul-le-mul-right}
 use native.Mathlib.Numerals.{add-one}
 use lib.Dec.{leb}
-use lib.ListN.{length}
+use lib.ListN.{length, getD, take, drop}
+use Rattle.std.specs.Numbers.{Converted}
+use Rattle.std.specs.Results.{okPart}
 use Rattle.std.specs.declared.option.Option.the-variants.{Some, None}
+use Rattle.std.specs.declared.result.Result.{Result}
+use Rattle.std.specs.declared.result.Result.the-variants.{Ok, Err}
 use Rattle.std.specs.shelf.Lists.{sum}
 use Rattle.std.proofs.shelf.Bits.{mul-lt}
-use Rattle.std.proofs.shelf.Lists.{append-nil, append-assoc}
+use Rattle.std.proofs.shelf.Lists.{append-nil, append-assoc, take-append-drop, take-more}
 use Rattle.std.proofs.shelf.Sums.{sumBy-push}
 use Rattle.std.proofs.shelf.Tests.{cond-true, cond-false, le-leb, lt-leb, cases-eq, cases-lt}
 use Rattle.kinds.specs.Counts.{counted}
@@ -25,6 +29,21 @@ counted-within n h = cond-true (leb n 4294967295) (Some n) None (le-leb n 429496
 
 pub counted-over : (n : ℕ) → 4294967295 < n → counted n ≡ None
 counted-over n h = cond-false (leb n 4294967295) (Some n) None (lt-leb n 4294967295 h)
+
+-- what is counted as a number of rows, and what is not
+pub counted-some : (m n : ℕ) → Some m ≡ counted n → (m ≡ n) × (n ≤ 4294967295)
+counted-some m n e = ⊎-elim (λ h. let z : _≡_ {A = ℕ} 0 1 = cc (e ∙ counted-over n h) in absurd (omega arith)) (λ h. (cc (e ∙ counted-within n h), h)) (cases-lt 4294967295 n)
+
+pub counted-none : (n : ℕ) → None ≡ counted n → 4294967295 < n
+counted-none n e = ⊎-elim (λ h. h) (λ h. let z : _≡_ {A = ℕ} 0 1 = cc (e ∙ counted-within n h) in absurd (omega arith)) (cases-lt 4294967295 n)
+
+-- a number in 32 bits is a number of rows
+pub counted-converted : {E : Type 0} (r : Result ℕ E) (n : ℕ) → Converted r (n < 4294967296) n → okPart r ≡ counted n
+counted-converted (Ok m) n h = ap Some (h .1) ∙ sym (counted-within n (omega (arith, h .0)))
+counted-converted (Err e) n h = sym (counted-over n (over h))
+  where
+    over : (n < 4294967296 → ⊥) → 4294967295 < n
+    over h = omega arith
 
 -- the words, times the orders of equal values, are the orders of all
 orders : (counts : List ℕ) → length (words counts) * factorials counts ≡ factorial (sum counts)
@@ -71,11 +90,12 @@ module _ (s : ℕ) where
       ∙ ap (λ n. n * all) (mul-comm (s + c + 1) (mixings s c)))
 
   -- which is found by division
-  pub mixings-next : (rows c : ℕ) → rows * mixings s (c + 1) ≡ rows * mixings s c * (s + c + 1) / (c + 1)
-  mixings-next rows c =
+  pub mixings-next : (rows c mixed places orders : ℕ) → mixed ≡ rows * mixings s c → places ≡ s + c + 1 → orders ≡ c + 1 → mixed * places / orders ≡ rows * mixings s (c + 1)
+  mixings-next rows c mixed places orders m p o =
       let step : mixings s (c + 1) * (c + 1) ≡ mixings s c * (s + c + 1) = subst (λ d. mixings s d * d ≡ mixings s c * (s + c + 1)) (sym (add-one c)) (mixings-more c) in
-      quotient (c + 1) (rows * mixings s (c + 1)) (rows * mixings s c * (s + c + 1)) (omega arith)
-      (mul-left-comm (c + 1) rows (mixings s (c + 1)) ∙ ap (λ n. rows * n) (mul-comm (c + 1) (mixings s (c + 1)) ∙ step) ∙ sym (mul-assoc rows (mixings s c) (s + c + 1)))
+      ap₂ _/_ (ap₂ _*_ m p) o
+      ∙ sym (quotient (c + 1) (rows * mixings s (c + 1)) (rows * mixings s c * (s + c + 1)) (omega arith)
+      (mul-left-comm (c + 1) rows (mixings s (c + 1)) ∙ ap (λ n. rows * n) (mul-comm (c + 1) (mixings s (c + 1)) ∙ step) ∙ sym (mul-assoc rows (mixings s c) (s + c + 1))))
 
   -- more values have no fewer mixings
   pub mixings-grow : (c d : ℕ) → c ≤ d → mixings s c ≤ mixings s d
@@ -111,3 +131,12 @@ words-grow xs (c ∷ ys) =
     let one : length (words xs) * 1 ≤ length (words xs) * mixings (sum xs) c = mul-le-mul-left (length (words xs)) (words-some (sum xs ∷ c ∷ [])) in
     let join : (xs ++ (c ∷ [])) ++ ys ≡ xs ++ (c ∷ ys) = append-assoc xs (c ∷ []) ys in
     omega (arith, one, mul-one (length (words xs)), words-push xs c, words-grow (xs ++ (c ∷ [])) ys, ap (λ l. length (words l)) join)
+
+module _ (counts : List ℕ) (i : ℕ) where
+  -- the words of the first counts and of one more
+  pub words-more : i < length counts → length (words (take (i + 1) counts)) ≡ length (words (take i counts)) * mixings (sum (take i counts)) (getD counts i 0)
+  words-more h = ap (λ l. length (words l)) (take-more counts i 0 h) ∙ words-push (take i counts) (getD counts i 0)
+
+  -- the first counts have no more words than all
+  pub words-front : length (words (take i counts)) ≤ length (words counts)
+  words-front = omega (arith, words-grow (take i counts) (drop i counts), ap (λ l. length (words l)) (take-append-drop i counts))

@@ -9,6 +9,14 @@ ghost use Rattle.kinds.specs.WordNodes.{words-leaf, mixings};
 use super::stretch::Stretch;
 use super::tree::Node;
 
+// How many values the counts say together.
+fn total(counts: &[u8]) -> u8
+    requires { ⌜ sum (now counts) ≤ 255 ⌝ }
+    ensures { λ r. ⌜ r ≡ sum (now (counts .entry)) ⌝ }
+{
+    counts.iter().copied().sum()
+}
+
 // How often each value is still to come, for the values below `kinds`, how many values that is together, and the number
 // of words that are left to write with them.
 #[derive(Clone, Copy)]
@@ -35,7 +43,7 @@ impl WordsNode {
         WordsNode {
             counts: all,
             kinds: counts.len(),
-            left: counts.iter().copied().sum(),
+            left: total(counts),
             rows,
         }
     }
@@ -45,7 +53,7 @@ impl WordsNode {
         requires { ⌜ v ≤ now self .kinds ⌝ }
         ensures { λ r. ⌜ r ≡ sum (take v (now (self .entry) .counts)) ⌝ }
     {
-        self.counts[0..v].iter().copied().sum()
+        total(&self.counts[0..v])
     }
 
     // The number of words that fall to a part of the values that are left.
