@@ -21,4 +21,6 @@ pub mod Stretches
 pub mod Swaps
 pub mod Told
 pub mod WayCounts
+pub mod WordCounts
+pub mod WordTree
 pub mod Words

@@ -6,3 +6,4 @@ pub mod Lists
 pub mod Ranges
 pub mod Shapes
 pub mod Tree
+pub mod WordNodes
