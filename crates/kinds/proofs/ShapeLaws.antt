@@ -7,6 +7,7 @@ use native.Mathlib.Omega.{arith}
 use lib.Dec.{leb}
 use lib.ListN.{length, getD}
 use Rattle.std.specs.Of.Vec.{vec-items}
+use Rattle.std.specs.shelf.Lists.{sum}
 use Rattle.std.proofs.shelf.Lists.{length-map}
 use Rattle.std.proofs.shelf.Tests.{and-parts, leb-true, false≢true}
 use Rattle.walk.specs.Rows.{Row, row-at, differences}
@@ -21,13 +22,15 @@ use Rattle.kinds.specs.declared.kind.Kind.{Kind}
 use Rattle.kinds.specs.declared.shape.Bin.{Bin}
 use Rattle.kinds.specs.declared.shape.Level.{Level}
 use Rattle.kinds.specs.declared.shape.Shape.{Shape}
-use Rattle.kinds.specs.declared.shape.Shape.the-variants.{Digits, Gray, Stock, Door}
+use Rattle.kinds.specs.declared.shape.Shape.the-variants.{Digits, Gray, Stock, Door, Words, Changes}
 use Rattle.kinds.proofs.Digits.{Just-under, width-under, bytes-under, digits-under, digits-apart}
 use Rattle.kinds.proofs.Door.{door-chosen, door-apart, door-stepping}
 use Rattle.kinds.proofs.Gray.{gray-under, gray-apart, gray-stepping}
 use Rattle.kinds.proofs.MixedRadix.{first-level, mixed-length}
 use Rattle.kinds.proofs.Radices.{between-at}
 use Rattle.kinds.proofs.RowSums.{Ones, filled-length}
+use Rattle.kinds.proofs.Words.{words-width, words-bytes, words-apart}
+use Rattle.kinds.proofs.Changes.{changes-width, changes-bytes, changes-apart, changes-laws}
 use Rattle.kinds.proofs.Stock.{stock-width, stock-bytes, stock-apart, width-chosen, bytes-chosen}
 
 -- what a list of rows has to keep, the place and the number of rows aside
@@ -103,6 +106,27 @@ shape-kept (Door bins t) holds =
       bytes = λ i k lt below. bytes-chosen (length stocks) t (door (length stocks) t) chosen i lt k (omega arith);
       apart = door-apart (length stocks) t;
       steps = λ yes-yes i lt. omega (arith, door-stepping (length stocks) t i lt);
+    }
+shape-kept (Words counts) holds =
+    let items = vec-items counts in
+    let parts = and-parts (leb (length items) 32) (leb (sum items) 32) holds in
+    let few = leb-true (length items) 32 (parts .0) in
+    let short = leb-true (sum items) 32 (parts .1) in
+    record {
+      narrow = omega arith;
+      wide = words-width items;
+      bytes = λ i k lt. words-bytes items i lt (omega arith) k;
+      apart = words-apart (sum items) items;
+      steps = λ no-yes. absurd (false≢true no-yes);
+    }
+shape-kept (Changes n) holds =
+    let small = leb-true n 12 holds in
+    record {
+      narrow = omega arith;
+      wide = changes-width n;
+      bytes = λ i k lt. changes-bytes n i lt (omega arith) k;
+      apart = changes-apart n;
+      steps = λ yes-yes i lt. omega (arith, changes-laws n .stepping i lt);
     }
 
 -- every kind is a walk

@@ -7,14 +7,15 @@ use native.Mathlib.Omega.{arith}
 use lib.Dec.{eqb, leb}
 use lib.ListN.{length}
 use Rattle.std.specs.Of.Vec.{vec-items}
+use Rattle.std.specs.shelf.Lists.{sum}
 use Rattle.walk.specs.Rows.{Row}
 use Rattle.kinds.specs.Bins.{mosts, bins-hold}
-use Rattle.kinds.specs.Lists.{product, digits, gray, stock, door}
+use Rattle.kinds.specs.Lists.{product, digits, gray, stock, door, words, changes}
 use Rattle.kinds.specs.Ranges.{all-between}
 use Rattle.kinds.specs.declared.shape.Bin.{Bin}
 use Rattle.kinds.specs.declared.shape.Level.{Level}
 use Rattle.kinds.specs.declared.shape.Shape.{Shape}
-use Rattle.kinds.specs.declared.shape.Shape.the-variants.{Digits, Gray, Stock, Door}
+use Rattle.kinds.specs.declared.shape.Shape.the-variants.{Digits, Gray, Stock, Door, Words, Changes}
 
 abbrev pub radices : List Level → List ℕ
 radices levels = map (λ (l : Level). l .radix) levels
@@ -45,12 +46,16 @@ rows-of (Digits levels) = digits (radices (vec-items levels))
 rows-of (Gray levels) = gray (radices (vec-items levels))
 rows-of (Stock bins t) = stock (mosts (vec-items bins)) t
 rows-of (Door bins t) = door (length (mosts (vec-items bins))) t
+rows-of (Words counts) = words (vec-items counts)
+rows-of (Changes n) = changes n
 
 abbrev pub width-of : Shape → ℕ
 width-of (Digits levels) = length (vec-items levels)
 width-of (Gray levels) = length (vec-items levels)
 width-of (Stock bins t) = length (vec-items bins)
 width-of (Door bins t) = length (vec-items bins)
+width-of (Words counts) = sum (vec-items counts)
+width-of (Changes n) = n
 
 -- a kind's name decides whether it is steady
 abbrev pub steady-of : Shape → Bool
@@ -58,6 +63,8 @@ steady-of (Digits levels) = false
 steady-of (Gray levels) = true
 steady-of (Stock bins t) = false
 steady-of (Door bins t) = true
+steady-of (Words counts) = false
+steady-of (Changes n) = true
 
 -- up to 32 stocks, each up to 32, and a sum up to 32
 abbrev pub sums-hold : List Bin → ℕ → Bool
@@ -69,3 +76,5 @@ shape-holds (Digits levels) = leb (length (vec-items levels)) 32 && levels-hold 
 shape-holds (Gray levels) = leb (length (vec-items levels)) 32 && levels-hold (vec-items levels)
 shape-holds (Stock bins t) = sums-hold (vec-items bins) t
 shape-holds (Door bins t) = all-between 1 1 (mosts (vec-items bins)) && sums-hold (vec-items bins) t
+shape-holds (Words counts) = leb (length (vec-items counts)) 32 && leb (sum (vec-items counts)) 32
+shape-holds (Changes n) = leb n 12

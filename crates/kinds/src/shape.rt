@@ -22,4 +22,8 @@ pub enum Shape {
     Stock(Vec<Bin>, u8),
     // stocks of 1, and the sum of a row
     Door(Vec<Bin>, u8),
+    // how often each value occurs
+    Words(Vec<u8>),
+    // how many values are ordered
+    Changes(u8),
 }

@@ -38,7 +38,8 @@ pub impl Walk for Kind as KindWalk {
         if tray.len() < self.width {
             return Err(Refusal::ShortTray);
         }
-        self.shape.write_row(self.place, &mut tray[0..self.width]);
+        self.shape
+            .write_row(self.size, self.place, &mut tray[0..self.width]);
         Ok(())
     }
 

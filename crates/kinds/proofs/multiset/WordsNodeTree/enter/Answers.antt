@@ -17,7 +17,7 @@ pub returns-then-v-self : need.returns-then-v-self
 returns-then-v-self c =
     let self = c .args .self .now in
     let none = node-lacks (self .left) (self .kinds) (self .counts) (c .from-v .result) (self .summed) (c .pre)
-        (elim (c .then-v-self .came) [ then-v-self·by·then-v-self w ↦ inl (w .if-v-self .taken) | then-v-self·by·else-v-self·then-self-v-eq0 w ↦ inr (w .if-v-self .left, w .if-self-v-eq0 .taken) ]) in
+    (elim (c .then-v-self .came) [ then-v-self·by·then-v-self w ↦ inl (w .if-v-self .taken) | then-v-self·by·else-v-self·then-self-v-eq0 w ↦ inr (w .if-v-self .left, w .if-self-v-eq0 .taken) ]) in
     record { branch = subst (Nowhere (words-of (self .left) (take (self .kinds) (self .counts)))) (c .from-v .ensures) none; down = tt }
 
 pub share-from-requires : need.share-from-requires
