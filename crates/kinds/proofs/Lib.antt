@@ -8,6 +8,7 @@ pub mod Gray
 pub mod Just
 pub mod Lower
 pub mod Made
+pub mod MadeTables
 pub mod MixedRadix
 pub mod Multinomial
 pub mod Nodes

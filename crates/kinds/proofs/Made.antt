@@ -20,7 +20,8 @@ use Rattle.walk.specs.Making.{new-walk, Makes}
 use Rattle.kinds.specs.Kinds.{making, radices-fit}
 use Rattle.kinds.specs.Ranges.{all-between}
 use Rattle.kinds.specs.Lists.{product}
-use Rattle.kinds.specs.Shapes.{radices, mixed, levels-of, levels-hold}
+use Rattle.kinds.specs.Shapes.{rows-of, width-of, steady-of}
+use Rattle.kinds.specs.declared.shape.Shape.{Shape}
 use Rattle.walk.specs.declared.making.MakingFault.{MakingFault}
 use Rattle.walk.specs.declared.making.MakingFault.the-variants.{OutOfRange, TooManyRows, NoMemory}
 use Rattle.kinds.specs.declared.shape.Level.{Level}
@@ -41,44 +42,19 @@ pub making-over : (fit : Bool) (rows : List Row) (width : ℕ) (steady : Bool) �
 making-over fit rows width steady fits over =
     cond-true fit _ _ fits ∙ cond-false (leb (length rows) 4294967295) _ _ (lt-leb (length rows) 4294967295 over)
 
-module _ (reflected : Bool) (n : ℕ) (list : List ℕ) where
-  -- the walk of mixed radices, as the rules make it
-  abbrev pub mixed-made : Result Meaning MakingFault
-  mixed-made = making (radices-fit n list) (mixed reflected list) n reflected
-
+module _ {X K : Type 0} (P : X → Type 0) (meaning : K → Meaning) (fit : Bool) (rows : List Row) (width : ℕ) (steady : Bool) (count : ℕ) (long : length rows ≡ count) where
   -- where there is no table, the fault is that of making
-  pub fault-of-table : {K : Type 0} (meaning : K → Meaning) (e : MakingFault) → Tabled n list (Err e) → Makes meaning (Err e) mixed-made
-  fault-of-table meaning OutOfRange unfit = making-unfit (radices-fit n list) (mixed reflected list) n reflected unfit
-  fault-of-table meaning TooManyRows over = making-over (radices-fit n list) (mixed reflected list) n reflected (over .0) (omega (arith, over .1, mixed-length reflected list))
-  fault-of-table meaning NoMemory short =
-      ap isOk (making-ok (radices-fit n list) (mixed reflected list) n reflected (short .0) (omega (arith, short .1, mixed-length reflected list)))
+  pub fault-of-table : (e : MakingFault) → Tabled fit count P (Err e) → Makes meaning (Err e) (making fit rows width steady)
+  fault-of-table OutOfRange unfit = making-unfit fit rows width steady unfit
+  fault-of-table TooManyRows over = making-over fit rows width steady (over .0) (omega (arith, over .1))
+  fault-of-table NoMemory short = ap isOk (making-ok fit rows width steady (short .0) (omega (arith, short .1)))
 
   -- the fault goes on as it came
-  pub fault-goes-on : {K : Type 0} (meaning : K → Meaning) (r : Result K MakingFault) (e y : MakingFault) → r ≡ Err y → y ≡ e → Tabled n list (Err e) → Makes meaning r mixed-made
-  fault-goes-on meaning r e y is same told = subst (λ x. Makes meaning x mixed-made) (sym (is ∙ ap Err same)) (fault-of-table meaning e told)
+  pub fault-goes-on : (r : Result K MakingFault) (e y : MakingFault) → r ≡ Err y → y ≡ e → Tabled fit count P (Err e) → Makes meaning r (making fit rows width steady)
+  fault-goes-on r e y is same told = subst (λ x. Makes meaning x (making fit rows width steady)) (sym (is ∙ ap Err same)) (fault-of-table e told)
 
-  -- what a table has, and the walk that it gives
-  pub record Table (levels : List Level) (size : ℕ) : Type 0 where
-    pub holds : (leb (length levels) 32 && levels-hold levels) ≡ true
-    pub counted : size ≡ length (mixed reflected (radices levels))
-    pub few : size ≤ 4294967295
-    pub same : radices levels ≡ list
-    pub gives : mixed-made ≡ Ok (new-walk (mixed reflected (radices levels)) (length levels) reflected)
-
-  pub table-has : (levels : Vec Level Global) (size : ℕ) → Tabled n list (Ok (levels, size)) → Table (vec-items levels) size
-  table-has levels size told =
-      let items = vec-items levels in
-      let parts = and-parts (leb n 32) _ (told .0) in
-      let more = and-parts (eqb (length list) n) _ (parts .1) in
-      let small = leb-true n 32 (parts .0) in
-      let long : length items ≡ n = ap length (told .2) ∙ length-levels list ∙ eqb-true (length list) n (more .0) in
-      let same : radices items ≡ list = ap radices (told .2) ∙ radices-of-levels list in
-      let few = told .1 in
-      record {
-        holds = and-from (leb (length items) 32) _ (le-leb (length items) 32 (omega arith)) (ap levels-hold (told .2) ∙ levels-of-hold list (more .1));
-        counted = told .3 ∙ sym (mixed-length reflected list) ∙ ap (λ rs. length (mixed reflected rs)) (sym same);
-        few = omega (arith, told .3);
-        same = same;
-        gives = making-ok (radices-fit n list) (mixed reflected list) n reflected (told .0) (omega (arith, mixed-length reflected list))
-            ∙ ap₂ (λ rs width. Ok (new-walk (mixed reflected rs) width reflected)) (sym same) (sym long);
-      }
+  -- what a table gives: the walk of a shape with these rows
+  pub walk-of-table : (x : X) (k : K) (s : Shape) → Tabled fit count P (Ok x) → meaning k ≡ new-walk (rows-of s) (width-of s) (steady-of s) → rows-of s ≡ rows → width-of s ≡ width → steady-of s ≡ steady → making fit rows width steady ≡ Ok (meaning k)
+  walk-of-table x k s told is same-rows same-width same-steady =
+      making-ok fit rows width steady (told .0) (omega (arith, told .1))
+      ∙ ap Ok (sym (is ∙ (λ i. new-walk (same-rows i) (same-width i) (same-steady i))))

@@ -10,7 +10,7 @@ use super::stretch::Stretch;
 use super::tree::Node;
 
 // How many values the counts say together.
-fn total(counts: &[u8]) -> u8
+pub fn total(counts: &[u8]) -> u8
     requires { ⌜ sum (now counts) ≤ 255 ⌝ }
     ensures { λ r. ⌜ r ≡ sum (now (counts .entry)) ⌝ }
 {

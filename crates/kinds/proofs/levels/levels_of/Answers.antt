@@ -8,7 +8,7 @@ use Rattle.std.proofs.Told.{chosen}
 use Rattle.std.proofs.shelf.Lists.{append-nil, at-drop-all}
 use Rattle.kinds.specs.Shapes.{levels-of}
 use Rattle.kinds.proofs.Radices.{between-at, rest-more, levels-more}
-use Rattle.kinds.proofs.kind.making.levels.Needs as need
+use Rattle.kinds.proofs.levels.levels_of.Needs as need
 
 pub div-below : need.div-below
 div-below c = omega (arith, c .from-below .ensures, between-at 1 255 (c .args .radices .now) (c .loop-radix .radix-index) (c .pre .fit) (c .loop-radix-test .taken))

@@ -6,8 +6,8 @@ use lib.ListN.{drop}
 use Rattle.std.proofs.shelf.Lists.{at-drop-more, at-drop-all}
 use Rattle.kinds.specs.Ranges.{all-between}
 use Rattle.kinds.proofs.Radices.{outside, inside}
-use Rattle.kinds.proofs.kind.making.all_between.Needs as need
-use Rattle.kinds.proofs.kind.making.all_between.Needs.{then-x-low·by·then-x-low, then-x-low·by·else-x-low·then-x-high}
+use Rattle.kinds.proofs.ranges.all_between.Needs as need
+use Rattle.kinds.proofs.ranges.all_between.Needs.{then-x-low·by·then-x-low, then-x-low·by·else-x-low·then-x-high}
 
 pub returns-then-x-low : need.returns-then-x-low
 returns-then-x-low c =

@@ -4,7 +4,7 @@ use native.Mathlib.Omega.{arith}
 use lib.ListN.{getD, drop}
 use Rattle.kinds.specs.Lists.{product}
 use Rattle.kinds.proofs.Radices.{count-more, count-over, count-whole}
-use Rattle.kinds.proofs.kind.making.count_rows.Needs as need
+use Rattle.kinds.proofs.levels.count_rows.Needs as need
 
 pub returns-in-Break-count : need.returns-in-Break-count
 returns-in-Break-count c =
