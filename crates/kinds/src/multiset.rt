@@ -34,7 +34,7 @@ impl WordsNode {
     // The node above all words of the counts, of which there are `rows`.
     pub fn new(counts: &[u8], rows: u32) -> WordsNode
         requires within { ⌜ length (now counts) ≤ 32 ⌝ }
-        requires few { ⌜ sum (now counts) ≤ 32 ⌝ }
+        requires few { ⌜ sum (now counts) ≤ 255 ⌝ }
         requires known { ⌜ rows ≡ length (words (now counts)) ⌝ }
         ensures { λ r. ⌜ (r .left ≡ sum (now (counts .entry))) × (take (r .kinds) (r .counts) ≡ now (counts .entry)) ⌝ }
     {
