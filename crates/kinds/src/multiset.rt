@@ -76,8 +76,8 @@ pub impl Node for WordsNode as WordsNodeTree {
     // The values have their shares of the words in order, so the label falls among the counts as it does among the words.
     fn pick(&self, label: u32) -> u8 {
         let mut rest = u64::from(label) * u64::from(self.left) / u64::from(self.rows);
-        for v in 0..self.kinds {
-            let count = u64::from(self.counts[v]);
+        for (v, count) in self.counts[0..self.kinds].iter().enumerate() {
+            let count = u64::from(*count);
             if rest < count {
                 return v as u8;
             }
