@@ -4,7 +4,7 @@ use mathlib.Core.Logic.{⊎-elim}
 use mathlib.Core.List.{List, [], _∷_, _++_}
 use Prim.Native.Nat.{ℕ, zero, suc, _+_, _*_, _/_, _≤_, _<_}
 use native.Mathlib.Omega.{arith}
-use native.Mathlib.Nat.{zero-mul, mul-assoc, mul-comm, mul-left-comm, mul-right-comm, mul-mul-mul-comm, mul-one, eq-of-mul-eq-mul-right, mul-le-mul-left, le-of-mul-le-mul-right}
+use native.Mathlib.Nat.{zero-mul, mul-assoc, mul-comm, mul-left-comm, mul-mul-mul-comm, mul-one, eq-of-mul-eq-mul-right, mul-le-mul-left, le-of-mul-le-mul-right}
 use native.Mathlib.Numerals.{add-one}
 use lib.Dec.{leb}
 use lib.ListN.{length, getD, take, drop}
@@ -16,7 +16,7 @@ use Rattle.std.specs.declared.result.Result.the-variants.{Ok, Err}
 use Rattle.std.specs.shelf.Lists.{sum}
 use Rattle.std.proofs.shelf.Bits.{mul-lt}
 use Rattle.std.proofs.shelf.Lists.{append-nil, append-assoc, take-append-drop, take-more}
-use Rattle.std.proofs.shelf.Sums.{sumBy-push}
+use Rattle.std.proofs.shelf.Sums.{sumBy-push, sumBy-more, sumBy-take-le}
 use Rattle.std.proofs.shelf.Tests.{cond-true, cond-false, le-leb, lt-leb, cases-eq, cases-lt}
 use Rattle.kinds.specs.Counts.{counted}
 use Rattle.kinds.specs.Lists.{words, factorial}
@@ -133,6 +133,10 @@ words-grow xs (c ∷ ys) =
     omega (arith, one, mul-one (length (words xs)), words-push xs c, words-grow (xs ++ (c ∷ [])) ys, ap (λ l. length (words l)) join)
 
 module _ (counts : List ℕ) (i : ℕ) where
+  -- the first counts and one more are some of all
+  pub sum-within : i < length counts → sum (take i counts) + getD counts i 0 ≤ sum counts
+  sum-within h = omega (arith, sumBy-more (λ x. x) counts i 0 h, sumBy-take-le (λ x. x) counts (i + 1))
+
   -- the words of the first counts and of one more
   pub words-more : i < length counts → length (words (take (i + 1) counts)) ≡ length (words (take i counts)) * mixings (sum (take i counts)) (getD counts i 0)
   words-more h = ap (λ l. length (words l)) (take-more counts i 0 h) ∙ words-push (take i counts) (getD counts i 0)

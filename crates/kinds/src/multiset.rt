@@ -34,7 +34,7 @@ impl WordsNode {
     // The node above all words of the counts, of which there are `rows`.
     pub fn new(counts: &[u8], rows: u32) -> WordsNode
         requires within { ⌜ length (now counts) ≤ 32 ⌝ }
-        requires few { ⌜ sum (now counts) ≤ 32 ⌝ }
+        requires few { ⌜ sum (now counts) ≤ 255 ⌝ }
         requires known { ⌜ rows ≡ length (words (now counts)) ⌝ }
         ensures { λ r. ⌜ (r .left ≡ sum (now (counts .entry))) × (take (r .kinds) (r .counts) ≡ now (counts .entry)) ⌝ }
     {
@@ -76,8 +76,8 @@ pub impl Node for WordsNode as WordsNodeTree {
     // The values have their shares of the words in order, so the label falls among the counts as it does among the words.
     fn pick(&self, label: u32) -> u8 {
         let mut rest = u64::from(label) * u64::from(self.left) / u64::from(self.rows);
-        for v in 0..self.kinds {
-            let count = u64::from(self.counts[v]);
+        for (v, count) in self.counts[0..self.kinds].iter().enumerate() {
+            let count = u64::from(*count);
             if rest < count {
                 return v as u8;
             }

@@ -1,21 +1,17 @@
-use mathlib.Core.Path.{_≡_, sym, ap, ap₂, _∙_}
-use Prim.Native.Nat.{_+_, _*_, _≤_, _<_}
+use mathlib.Core.Path.{sym, ap, ap₂, _∙_}
+use Prim.Native.Nat.{_+_, _*_}
 use native.Mathlib.Omega.{arith}
-use lib.ListN.{length, getD, take}
-use Rattle.std.specs.shelf.Lists.{sum}
+use lib.ListN.{length, getD}
 use Rattle.std.proofs.shelf.Lists.{take-all}
-use Rattle.std.proofs.shelf.Sums.{sumBy-more, sumBy-take-le}
+use Rattle.std.proofs.shelf.Sums.{sumBy-more}
 use Rattle.kinds.specs.Counts.{counted}
 use Rattle.kinds.specs.Lists.{words}
 use Rattle.kinds.specs.WordNodes.{mixings}
-use Rattle.kinds.proofs.WordCounts.{counted-within, counted-over, counted-some, counted-none, words-more, words-front}
+use Rattle.kinds.proofs.WordCounts.{counted-within, counted-over, counted-some, counted-none, sum-within, words-more, words-front}
 use Rattle.kinds.proofs.multiset.count_words.Needs as need
 
 pub mix-requires : need.mix-requires
-mix-requires c κs =
-    let counts = c .args .counts .now in
-    let i = c .loop-count .count-index in
-    omega (arith, c .loop-count .inv .2, sumBy-more (λ x. x) counts i 0 (c .loop-count-test .taken), sumBy-take-le (λ x. x) counts (i + 1))
+mix-requires c κs = omega (arith, c .loop-count .inv .2, c .pre, sum-within (c .args .counts .now) (c .loop-count .count-index) (c .loop-count-test .taken))
 
 pub returns-in-Break-rows : need.returns-in-Break-rows
 returns-in-Break-rows c =
@@ -26,10 +22,7 @@ returns-in-Break-rows c =
     c .from-residual .ensures ∙ sym (counted-over (length (words counts)) (omega (arith, over, mixed, words-front counts (i + 1))))
 
 pub add-some : need.add-some
-add-some c =
-    let counts = c .args .counts .now in
-    let i = c .loop-count .count-index in
-    omega (arith, c .loop-count .inv .2, sumBy-more (λ x. x) counts i 0 (c .loop-count-test .taken), sumBy-take-le (λ x. x) counts (i + 1))
+add-some c = omega (arith, c .loop-count .inv .2, c .pre, sum-within (c .args .counts .now) (c .loop-count .count-index) (c .loop-count-test .taken))
 
 pub loop-count-again : need.loop-count-again
 loop-count-again c =

@@ -10,7 +10,7 @@ pub total-requires : need.total-requires
 total-requires c κs =
     let self = c .args .self .now in
     let all : c .args .v - 0 ≡ c .args .v = omega arith in
-    omega (arith, ap (λ v. sum (take v (self .counts))) all, before-within (self .left) (self .kinds) (self .counts) (c .args .v) (c .pre) (self .summed))
+    omega (arith, ap (λ v. sum (take v (self .counts))) all, before-within self (c .args .v) (c .pre))
 
 pub returns : need.returns
 returns c =
