@@ -1,3 +1,4 @@
+pub mod Carries
 pub mod Cuts
 pub mod Gathers
 pub mod Words

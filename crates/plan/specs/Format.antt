@@ -98,10 +98,11 @@ lines-of-text text = provided (leb (length text) 4096) (two-lines (pieces 10 tex
 abbrev pub fault : Cause → ℕ → PlanFault
 fault cause line = record { cause = cause; line = line }
 
-abbrev pub part-of-lines : Lines → Result Part PlanFault
-part-of-lines lines =
+-- what the lines ask for, or the first fault: of the text as a whole, of the names line, of the part
+abbrev pub part-of-lines : Option Lines → Result Part PlanFault
+part-of-lines None = Err (fault Text 0)
+part-of-lines (Some lines) =
     cond (sameBytes (lines .names) (codes "kind,n,t,list")) (okOr (part-of-line (lines .part)) (fault (PartCause Form) 2)) (Err (fault Names 1))
 
--- what a text asks for, or its first fault: of the text as a whole, of the names line, of the part
 abbrev pub part-of-text : List ℕ → Result Part PlanFault
-part-of-text text = elim (lines-of-text text) [ None ↦ Err (fault Text 0) | Some lines ↦ part-of-lines lines ]
+part-of-text text = part-of-lines (lines-of-text text)

@@ -5,3 +5,4 @@ pub mod list;
 pub mod number;
 pub mod part;
 pub mod pieces;
+pub mod read;
