@@ -6,9 +6,8 @@ ghost use Rattle.plan.specs.declared.fault.PartFault.the-variants.{Making};
 ghost use Rattle.plan.specs.declared.fault.Cause.the-variants.{Part as PartCause};
 use kinds::fault::MakingFault;
 use kinds::fault::MakingFaultDebug;
-use kinds::fault::MakingFaultPartialEq;
 use kinds::fault::MakingFaultEq;
-use std::alloc::AllocError;
+use kinds::fault::MakingFaultPartialEq;
 use std::alloc::Refused;
 
 // What is wrong with the line of a part.
@@ -72,14 +71,6 @@ pub impl From<MakingFault> for PartFault as PartFaultFromMaking {
 
     fn from(fault: MakingFault) -> PartFault {
         PartFault::Making(fault)
-    }
-}
-
-pub impl From<AllocError> for PartFault as PartFaultFromAlloc {
-    ghost converts = { λ _ r. r ≡ Making NoMemory };
-
-    fn from(_e: AllocError) -> PartFault {
-        PartFault::Making(MakingFault::NoMemory)
     }
 }
 

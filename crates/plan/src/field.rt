@@ -48,8 +48,14 @@ impl<'a> Lines<'a> {
             return None;
         }
         let mut pieces = Pieces::new(text, b'\n');
-        let names = Field { line: 1, bytes: pieces.next()? };
-        let part = Field { line: 2, bytes: pieces.next()? };
+        let names = Field {
+            line: 1,
+            bytes: pieces.next()?,
+        };
+        let part = Field {
+            line: 2,
+            bytes: pieces.next()?,
+        };
         let after = pieces.next()?;
         if !after.is_empty() || pieces.next().is_some() {
             return None;
@@ -66,10 +72,22 @@ impl<'a> Field<'a> {
     {
         let line = self.line;
         let mut pieces = Pieces::new(self.bytes, b',');
-        let kind = Field { line, bytes: pieces.next()? };
-        let n = Field { line, bytes: pieces.next()? };
-        let t = Field { line, bytes: pieces.next()? };
-        let list = Field { line, bytes: pieces.next()? };
+        let kind = Field {
+            line,
+            bytes: pieces.next()?,
+        };
+        let n = Field {
+            line,
+            bytes: pieces.next()?,
+        };
+        let t = Field {
+            line,
+            bytes: pieces.next()?,
+        };
+        let list = Field {
+            line,
+            bytes: pieces.next()?,
+        };
         if pieces.next().is_some() {
             return None;
         }
@@ -80,6 +98,9 @@ impl<'a> Field<'a> {
     pub fn fault(self, fault: PartFault) -> PlanFault
         ensures { λ r. ⌜ r ≡ lined (PartCause fault) (self .entry .line) ⌝ }
     {
-        PlanFault { cause: Cause::from(fault), line: self.line }
+        PlanFault {
+            cause: Cause::from(fault),
+            line: self.line,
+        }
     }
 }

@@ -46,7 +46,11 @@ pub fn entries(heap: Global, n: u16, list: &[u8]) -> Result<Vec<u16>, PartFault>
     ensures { λ r. ⌜ Gives vec-items no-memory r (okOr (entries n (now (list .entry))) Form) ⌝ }
 {
     if n == 0 {
-        return if list == b"-" { Ok(Vec::new(heap)) } else { Err(PartFault::Form) };
+        return if list == b"-" {
+            Ok(Vec::new(heap))
+        } else {
+            Err(PartFault::Form)
+        };
     }
     if !all_numbers(list) {
         return Err(PartFault::Form);

@@ -14,10 +14,14 @@ pub struct Pieces<'a> {
 }
 
 impl<'a> Pieces<'a> {
+    // The pieces of the bytes, of which the first ends before the first byte `at`.
     pub fn new(bytes: &'a [u8], at: u8) -> Pieces<'a>
         ensures { λ r. ⌜ coming r ≡ pieces at (now (bytes .entry)) ⌝ }
     {
-        Pieces { at, rest: Some(bytes) }
+        Pieces {
+            at,
+            rest: Some(bytes),
+        }
     }
 }
 
@@ -36,7 +40,7 @@ fn cut(bytes: &[u8], at: u8) -> Option<(&[u8], &[u8])>
 pub impl<'a> Iterator for Pieces<'a> as PiecesIterator {
     type Item = &'a [u8];
 
-    ghost steps = { λ s r t. Cases r (coming s ≡ []) (λ p. coming s ≡ p .now ∷ coming t) };
+    ghost steps = { λ s r t. Cases r ((coming s ≡ []) × (t ≡ s)) (λ p. coming s ≡ p .now ∷ coming t) };
 
     ghost ends = { λ _. Unit {0} };
 

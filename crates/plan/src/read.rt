@@ -13,10 +13,16 @@ pub fn asked(heap: Global, text: &[u8]) -> Result<Asked, PlanFault>
     ensures { λ r. ⌜ Gives part-asked (lined (PartCause no-memory) 2) r (part-of-text (now (text .entry))) ⌝ }
 {
     let Some(lines) = Lines::of(text) else {
-        return Err(PlanFault { cause: Cause::Text, line: 0 });
+        return Err(PlanFault {
+            cause: Cause::Text,
+            line: 0,
+        });
     };
     if lines.names.bytes != b"kind,n,t,list" {
-        return Err(PlanFault { cause: Cause::Names, line: lines.names.line });
+        return Err(PlanFault {
+            cause: Cause::Names,
+            line: lines.names.line,
+        });
     }
     match Asked::of(heap, lines.part) {
         Ok(asked) => Ok(asked),
