@@ -13,6 +13,7 @@ use crate::fault::PlanFault;
 use crate::pieces::Pieces;
 use crate::pieces::PiecesIterator;
 
+// A part of the text; lines count from 1.
 #[derive(Clone, Copy)]
 pub struct Field<'a> {
     pub line: u8,
