@@ -7,3 +7,5 @@ pub mod number;
 pub mod part;
 pub mod pieces;
 pub mod read;
+#[cfg(test)]
+mod tests;
