@@ -14,6 +14,10 @@ mapped-more front x None = refl
 mapped-more front x (Some xs) = ap Some (sym (append-assoc front (x ∷ []) xs))
 
 -- one more piece that is a number goes to the end of what was gathered
-pub numbers-more : (all : Option (List ℕ)) (front : List ℕ) (x : ℕ) (piece : List ℕ) (more : List (List ℕ)) → number-value piece ≡ Some x → all ≡ mapped (λ xs. front ++ xs) (numbers (piece ∷ more)) → all ≡ mapped (λ xs. (front ++ x ∷ []) ++ xs) (numbers more)
-numbers-more all front x piece more is so =
-    so ∙ ap (λ o. mapped (λ xs. front ++ xs) (and-then o (λ y. mapped (λ xs. y ∷ xs) (numbers more)))) is ∙ mapped-more front x (numbers more)
+pub numbers-more : (all : Option (List ℕ)) (front after : List ℕ) (x : ℕ) (piece : List ℕ) (came more : List (List ℕ)) → all ≡ mapped (λ xs. front ++ xs) (numbers came) → came ≡ piece ∷ more → Some x ≡ number-value piece → after ≡ front ++ x ∷ [] → all ≡ mapped (λ xs. after ++ xs) (numbers more)
+numbers-more all front after x piece came more so comes is pushed =
+    so
+    ∙ ap (λ ps. mapped (λ xs. front ++ xs) (numbers ps)) comes
+    ∙ ap (λ o. mapped (λ xs. front ++ xs) (and-then o (λ y. mapped (λ xs. y ∷ xs) (numbers more)))) (sym is)
+    ∙ mapped-more front x (numbers more)
+    ∙ ap (λ l. mapped (λ xs. l ++ xs) (numbers more)) (sym pushed)

@@ -13,11 +13,10 @@ use Rattle.std.specs.Options.{mapped, okOr}
 use Rattle.std.specs.declared.option.Option.{Option}
 use Rattle.std.specs.declared.option.Option.the-variants.{Some, None}
 use Rattle.std.specs.declared.result.Result.{Result}
-use Rattle.std.specs.declared.result.Result.the-variants.{Ok, Err}
+use Rattle.std.specs.declared.result.Result.the-variants.{Err}
 use Rattle.std.specs.shelf.Text.{sameBytes}
 use Rattle.plan.specs.declared.fault.Cause.{Cause}
 use Rattle.plan.specs.declared.fault.Cause.the-variants.{Text, Names, Part as PartCause}
-use Rattle.plan.specs.declared.fault.PartFault.{PartFault}
 use Rattle.plan.specs.declared.fault.PartFault.the-variants.{Form}
 use Rattle.plan.specs.declared.fault.PlanFault.{PlanFault}
 use Rattle.plan.specs.declared.part.KindName.{KindName}

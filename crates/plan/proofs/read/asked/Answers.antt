@@ -1,10 +1,9 @@
-use mathlib.Core.Path.{_≡_, refl, sym, ap, _∙_}
+use mathlib.Core.Path.{_≡_, sym, ap, _∙_}
 use mathlib.Core.Bool.{Bool, true, false, cond}
 use mathlib.Core.Logic.{inl}
 use lib.Chars.{codes}
 use Rattle.std.specs.Options.{okOr}
-use Rattle.std.specs.declared.result.Result.{Result}
-use Rattle.std.specs.declared.result.Result.the-variants.{Ok, Err}
+use Rattle.std.specs.declared.result.Result.the-variants.{Err}
 use Rattle.std.specs.shelf.Text.{sameBytes}
 use Rattle.plan.specs.declared.fault.Cause.the-variants.{Names, Part as PartCause}
 use Rattle.plan.specs.declared.fault.PartFault.the-variants.{Form}

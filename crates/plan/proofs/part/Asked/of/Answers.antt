@@ -1,14 +1,14 @@
-use mathlib.Core.Path.{_≡_, sym, ap}
+use mathlib.Core.Path.{_≡_, sym}
 use mathlib.Core.Bool.{Bool, true, false}
 use mathlib.Core.List.{List}
 use mathlib.Core.Logic.{inl}
 use Prim.Native.Nat.{ℕ}
-use Rattle.std.specs.Options.{mapped, okOr}
+use Rattle.std.specs.Options.{mapped}
 use Rattle.std.specs.shelf.Text.{sameBytes}
 use Rattle.std.proofs.shelf.Results.{err-from-errBy}
 use Rattle.plan.specs.declared.fault.PartFault.the-variants.{Form}
 use Rattle.plan.specs.Format.{Part, dash, provided, entries, part-of-line}
-use Rattle.plan.specs.Reading.{Gives, part-asked, no-memory}
+use Rattle.plan.specs.Reading.{no-memory}
 use Rattle.plan.proofs.Carries.{ok-carried, fault-carried}
 use Rattle.plan.proofs.Words.{same-from-ne}
 use Rattle.plan.proofs.part.Asked.of.Needs as need
