@@ -1,3 +1,6 @@
-pub mod Faults
-pub mod Lists
+pub mod Counts
+pub mod Kinds
 pub mod Laws
+pub mod Lists
+pub mod Shapes
+pub mod Tree

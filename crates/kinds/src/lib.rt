@@ -1,2 +1,7 @@
 // The kinds of walk that are made from numbers.
-pub mod fault;
+pub mod kind;
+mod labels;
+mod radix;
+mod shape;
+mod stretch;
+mod tree;

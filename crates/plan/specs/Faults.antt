@@ -2,7 +2,7 @@
 use Prim.Native.Nat.{ℕ}
 use Rattle.std.specs.declared.option.Option.{Option}
 use Rattle.std.specs.declared.option.Option.the-variants.{Some, None}
-use Rattle.kinds.specs.Faults.{making-number}
+use Rattle.walk.specs.Making.{making-number}
 use Rattle.plan.specs.declared.fault.PartFault.the-variants.{Form, Making}
 use Rattle.plan.specs.declared.fault.Cause.{Cause}
 use Rattle.plan.specs.declared.fault.Cause.the-variants.{Text, Names, Part}

@@ -7,7 +7,7 @@ use Rattle.std.specs.Of.Vec.{vec-items}
 use Rattle.std.specs.Results.{isOk}
 use Rattle.std.specs.declared.result.Result.{Result}
 use Rattle.std.specs.declared.result.Result.the-variants.{Ok, Err}
-use Rattle.kinds.specs.declared.fault.MakingFault.the-variants.{NoMemory}
+use Rattle.walk.specs.declared.making.MakingFault.the-variants.{NoMemory}
 use Rattle.plan.specs.declared.fault.PartFault.{PartFault}
 use Rattle.plan.specs.declared.fault.PartFault.the-variants.{Making}
 use Rattle.plan.specs.declared.field.Fields.{Fields as FieldsHeld}

@@ -1,14 +1,14 @@
 // Why a plan text was refused, and where.
 ghost use mathlib.Core.Path.{_≡_};
-ghost use Rattle.kinds.specs.declared.fault.MakingFault.the-variants.{NoMemory};
+ghost use Rattle.walk.specs.declared.making.MakingFault.the-variants.{NoMemory};
 ghost use Rattle.plan.specs.Faults.{cause-number, cause-layer};
 ghost use Rattle.plan.specs.declared.fault.PartFault.the-variants.{Making};
 ghost use Rattle.plan.specs.declared.fault.Cause.the-variants.{Part as PartCause};
-use kinds::fault::MakingFault;
-use kinds::fault::MakingFaultDebug;
-use kinds::fault::MakingFaultEq;
-use kinds::fault::MakingFaultPartialEq;
 use std::alloc::Refused;
+use walk::making::MakingFault;
+use walk::making::MakingFaultDebug;
+use walk::making::MakingFaultEq;
+use walk::making::MakingFaultPartialEq;
 
 // What is wrong with the line of a part.
 #[derive(Clone, Copy, PartialEq, Eq, Debug)]

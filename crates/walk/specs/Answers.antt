@@ -47,9 +47,9 @@ abbrev pub finds : Meaning → Row → Result ℕ Refusal
 finds m r = okOr (label-of (m .rows) r) NoSuchRow
 
 -- The lowest and the highest place at which two rows differ.
-abbrev pub span : Row → Row → Span
-span r s = record { lowest = lowest r s; highest = highest r s }
+abbrev pub span-of : Row → Row → Span
+span-of r s = record { lowest = lowest r s; highest = highest r s }
 
 -- `change` compares the row at the place with the next one, and refuses where there is none.
 abbrev pub changes : Meaning → Result Span Refusal
-changes m = cond (ltb (m .place + 1) (size m)) (Ok (span (row m (m .place)) (row m (m .place + 1)))) (Err NoSuchLabel)
+changes m = cond (ltb (m .place + 1) (size m)) (Ok (span-of (row m (m .place)) (row m (m .place + 1)))) (Err NoSuchLabel)

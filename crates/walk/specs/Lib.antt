@@ -1,3 +1,4 @@
-pub mod Rows
-pub mod Meaning
 pub mod Answers
+pub mod Making
+pub mod Meaning
+pub mod Rows

@@ -4,7 +4,7 @@ use mathlib.Core.Bool.{Bool, true}
 use mathlib.Core.List.{List}
 use Prim.Native.Nat.{ℕ, _+_, _≤_, _<_}
 use lib.ListN.{length, getD}
-use Rattle.walk.specs.Rows.{Row, row-at, differences}
+use Rattle.walk.specs.Rows.{Row, row-at, Apart, differences}
 
 -- A walk is a list of rows in a fixed order, and a place in it. The label of a row is its place in the list, counted
 -- from 0. `steady` is its word that neighbouring rows differ in at most two places.
@@ -35,7 +35,7 @@ pub record Lawful (m : Meaning) : Type 0 where
   -- values go up to 255
   pub bytes : (i k : ℕ) → i < size m → k < m .width → getD (row m i) k 0 ≤ 255
   -- no two rows are the same
-  pub apart : (i j : ℕ) → i < size m → j < size m → row m i ≡ row m j → i ≡ j
+  pub apart : Apart (m .rows)
   -- the place is a label, or 0 where there are no rows
   pub inside : (0 < size m → m .place < size m) × (size m ≡ 0 → m .place ≡ 0)
   -- after a yes, neighbouring rows differ in at most two places

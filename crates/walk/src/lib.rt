@@ -1,5 +1,7 @@
 // What a walk is: a numbered list of rows, in an order in which it can be stepped through, searched and read.
 pub mod answers;
+pub mod making;
+mod rows;
 
 ghost use mathlib.Core.Path.{_≡_};
 ghost use mathlib.Core.Bool.{Bool};
@@ -8,6 +10,7 @@ ghost use Rattle.walk.specs.Meaning.{Meaning, Lawful, size};
 ghost use Rattle.walk.specs.Answers.{seeks, after-seek, backs, after-back, reads, after-read, finds, changes};
 use answers::Refusal;
 use answers::Span;
+use rows::span;
 
 pub trait Walk {
     // what the walk means: its rows, their width, the place at which it stands, and its answer to `steady`
@@ -55,5 +58,32 @@ pub trait Walk {
             return Err(Refusal::NoSuchLabel);
         }
         self.seek(place + 1)
+    }
+    // Goes down by one label.
+    fn back(&mut self) -> Result<(), Refusal>
+        ensures answer { λ r. ⌜ r ≡ backs (meaning (now (self .entry))) ⌝ }
+        ensures after { λ _. ⌜ meaning (now (self .exit)) ≡ after-back (meaning (now (self .entry))) ⌝ }
+    {
+        let place = self.place();
+        if place == 0 {
+            return Err(Refusal::NoSuchLabel);
+        }
+        self.seek(place - 1)
+    }
+
+    // The lowest and the highest place at which the row at the place differs from the next one. It steps up and back
+    // again to read both, and so stands in the end where it stood.
+    fn change(&mut self) -> Result<Span, Refusal>
+        ensures answer { λ r. ⌜ r ≡ changes (meaning (now (self .entry))) ⌝ }
+        ensures same { λ _. ⌜ meaning (now (self .exit)) ≡ meaning (now (self .entry)) ⌝ }
+    {
+        let width = self.width();
+        let mut next = [0u8; 64];
+        let mut here = [0u8; 64];
+        self.advance()?;
+        self.read(&mut next)?;
+        self.back()?;
+        self.read(&mut here)?;
+        Ok(span(&here[0..width], &next[0..width]))
     }
 }

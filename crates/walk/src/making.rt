@@ -1,7 +1,7 @@
-// Why a kind could not be made.
+// Why a walk could not be made.
 ghost use mathlib.Core.Path.{_≡_};
-ghost use Rattle.kinds.specs.Faults.{making-number};
-ghost use Rattle.kinds.specs.declared.fault.MakingFault.the-variants.{NoMemory};
+ghost use Rattle.walk.specs.Making.{making-number};
+ghost use Rattle.walk.specs.declared.making.MakingFault.the-variants.{NoMemory};
 use std::alloc::AllocError;
 use std::alloc::Refused;
 

@@ -1,0 +1,28 @@
+-- What the lister writes of a walk. Assumes nothing.
+use mathlib.Core.List.{List, [], _∷_, _++_}
+use Prim.Native.Nat.{ℕ, zero, suc, min}
+use lib.Chars.{codes}
+use Rattle.std.specs.Iters.{counting}
+use Rattle.std.specs.Joined.{joined}
+use Rattle.std.specs.Written.{decimal}
+use Rattle.walk.specs.Meaning.{Meaning, size, row}
+use Rattle.walk.specs.Rows.{Row}
+
+-- the values of a row, with one blank between neighbours
+abbrev pub row-text : Row → List ℕ
+row-text [] = []
+row-text (v ∷ []) = decimal v
+row-text (v ∷ w ∷ r) = decimal v ++ (codes " " ++ row-text (w ∷ r))
+
+-- what stands before the value at a place
+abbrev pub gap-text : ℕ → List ℕ
+gap-text zero = []
+gap-text (suc place) = codes " "
+
+-- a label, a comma, the row
+abbrev pub line-text : ℕ → Row → List ℕ
+line-text label r = decimal label ++ (codes "," ++ (row-text r ++ codes "\n"))
+
+-- the names, and up to 1,000 rows in the order of their labels
+abbrev pub listing-text : Meaning → List ℕ
+listing-text m = codes "label,row\n" ++ joined (λ label. line-text label (row m label)) (counting 0 (min (size m) 1000))
