@@ -1,0 +1,5 @@
+pub mod Carries
+pub mod Cuts
+pub mod Decimals
+pub mod Gathers
+pub mod Words
