@@ -1,0 +1,2 @@
+// The layers: walks made over other walks.
+pub mod reverse;
