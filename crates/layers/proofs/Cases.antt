@@ -124,3 +124,7 @@ read-same m n tray some-m some-n width rows =
 -- the place is a label, or 0 where there are no rows
 pub place-most : (m : Meaning) → Lawful m → m .place ≤ size m - 1
 place-most m lawful = ⊎-elim (λ some. omega (arith, lawful .inside .0 some)) (λ none. omega (arith, lawful .inside .1 (omega arith))) (cases-lt 0 (size m))
+
+-- what is accepted is not refused
+pub not-both : (answer : Result (Unit {0}) Refusal) (why : Refusal) → Err why ≡ answer → answer ≡ Ok tt → ⊥
+not-both answer why refused accepted = let z : _≡_ {A = ℕ} 0 1 = cc in omega arith

@@ -1,1 +1,2 @@
+pub mod Part
 pub mod Reverse

@@ -1,2 +1,3 @@
 // The layers: walks made over other walks.
+pub mod part;
 pub mod reverse;
