@@ -1,3 +1,5 @@
 pub mod Cases
+pub mod Joined
 pub mod Pieces
 pub mod Reversed
+pub mod Stepping

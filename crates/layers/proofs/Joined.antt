@@ -1,0 +1,87 @@
+-- Where the rows of a join stand. Assumes nothing.
+use mathlib.Core.Path.{_≡_, refl, sym, ap, ap₂, _∙_}
+use mathlib.Core.Bool.{Bool, true, false, not, cond, _&&_}
+use mathlib.Core.List.{List, [], _∷_, _++_, map}
+use Prim.Native.Nat.{ℕ, zero, suc, _+_, _-_, _*_, _/_, _%_, _≤_, _<_}
+use native.Mathlib.Omega.{arith}
+use native.Mathlib.Nat.{zero-add, zero-mul, suc-mul}
+use lib.ListN.{length}
+use Rattle.std.proofs.shelf.Bits.{div-below, mod-below, div-add-mod', mul-add-lt}
+use Rattle.std.proofs.shelf.Lists.{length-append, length-map, getD-append-left, getD-append-add, getD-map, take-at, drop-at}
+use Rattle.walk.specs.Rows.{Row, row-at, odd, turned}
+use Rattle.walk.proofs.Turned.{length-turned, row-turned}
+use Rattle.layers.specs.Join.{joined-from, joined-rows, mirrored, joined-label}
+use Rattle.layers.proofs.Stepping.{mirrored-below, mirrored-twice}
+
+module _ (swing : Bool) (rs : List Row) where
+  -- there are as many rows as pairs
+  pub length-joined : (i : ℕ) (ls : List Row) → length (joined-from swing i ls rs) ≡ length ls * length rs
+  length-joined i [] = sym (zero-mul (length rs))
+  length-joined i (l ∷ ls) =
+      simp (length-append, length-map, length-turned) (omega (arith, suc-mul (length ls) (length rs), length-joined (suc i) ls))
+
+  -- the row j under the left row k, where the left rows have labels from i on
+  joined-from-at : (i k j : ℕ) (ls : List Row) → k < length ls → j < length rs →
+      row-at (joined-from swing i ls rs) (k * length rs + j) ≡ row-at ls k ++ row-at rs (mirrored (swing && odd (i + k)) (length rs) j)
+  joined-from-at i k j [] lt below = absurd (omega arith)
+  joined-from-at i zero j (l ∷ ls) lt below =
+      let back = swing && odd i in
+      let long : length (turned back rs) ≡ length rs = length-turned back rs in
+      let first : zero * length rs + j ≡ j = omega (arith, zero-mul (length rs)) in
+      let here : i ≡ i + zero = omega arith in
+      ap (row-at (joined-from swing i (l ∷ ls) rs)) first
+      ∙ getD-append-left (map (λ r. l ++ r) (turned back rs)) (joined-from swing (suc i) ls rs) [] j (simp length-map (omega arith))
+      ∙ getD-map (λ r. l ++ r) (turned back rs) j [] [] (omega arith)
+      ∙ ap (λ r. l ++ r) (row-turned back rs j below)
+      ∙ ap (λ x. l ++ row-at rs (mirrored (swing && odd x) (length rs) j)) here
+  joined-from-at i (suc k) j (l ∷ ls) lt below =
+      let front = map (λ r. l ++ r) (turned (swing && odd i) rs) in
+      let long : length front ≡ length rs = length-map (turned (swing && odd i) rs) (λ r. l ++ r) ∙ length-turned (swing && odd i) rs in
+      let later : suc k * length rs + j ≡ length front + (k * length rs + j) = omega (arith, suc-mul k (length rs)) in
+      let label : suc i + k ≡ i + suc k = omega arith in
+      ap (row-at (joined-from swing i (l ∷ ls) rs)) later
+      ∙ getD-append-add front (joined-from swing (suc i) ls rs) (k * length rs + j) []
+      ∙ joined-from-at (suc i) k j ls (omega arith) below
+      ∙ ap (λ x. row-at ls k ++ row-at rs (mirrored (swing && odd x) (length rs) j)) label
+
+  -- the left row i followed by the right row j stands at its label
+  pub joined-at : (ls : List Row) (i j : ℕ) → i < length ls → j < length rs →
+      row-at (joined-rows swing ls rs) (joined-label swing (length rs) i j) ≡ row-at ls i ++ row-at rs j
+  joined-at ls i j lt below =
+      let back = swing && odd i in
+      joined-from-at 0 i (mirrored back (length rs) j) ls lt (mirrored-below back (length rs) j below)
+      ∙ ap (λ x. row-at ls i ++ row-at rs (mirrored (swing && odd x) (length rs) (mirrored back (length rs) j))) (zero-add i)
+      ∙ ap (λ x. row-at ls i ++ row-at rs x) (mirrored-twice back (length rs) j below)
+
+-- the label of a pair of rows is a label of the join
+pub label-below : (swing : Bool) (m n i j : ℕ) → i < m → j < n → joined-label swing n i j < m * n
+label-below swing m n i j lt below =
+    omega (arith, mul-add-lt i n (mirrored (swing && odd i) n j) m lt (mirrored-below (swing && odd i) n j below))
+
+-- the pair of rows that stands at a label of a join
+pub record Pair (swing : Bool) (m n label : ℕ) : Type 0 where
+  pub left : ℕ
+  pub right : ℕ
+  pub left-below : left < m
+  pub right-below : right < n
+  pub is : label ≡ joined-label swing n left right
+
+-- at every label a pair of rows stands
+pub pair-at : (swing : Bool) (m n label : ℕ) → label < m * n → Pair swing m n label
+pair-at swing m zero label lt = absurd (omega (arith, native.Mathlib.Nat.mul-zero m))
+pair-at swing m (suc n) label lt =
+    let back = swing && odd (label / suc n) in
+    let inner = mod-below label (suc n) (omega arith) in
+    record {
+      left = label / suc n;
+      right = mirrored back (suc n) (label % suc n);
+      left-below = div-below label (suc n) m (omega arith) lt;
+      right-below = mirrored-below back (suc n) (label % suc n) inner;
+      is = sym (ap (λ k. label / suc n * suc n + k) (mirrored-twice back (suc n) (label % suc n) inner) ∙ div-add-mod' label (suc n));
+    }
+
+-- rows of one width that are followed by others are the same where the whole rows are, and so are those that follow
+pub parts-same : (a b c d : Row) → length a ≡ length c → a ++ b ≡ c ++ d → (a ≡ c) × (b ≡ d)
+parts-same a b c d long e =
+    (sym (take-at a b (length a) refl) ∙ ap (lib.ListN.take (length a)) e ∙ take-at c d (length a) (sym long),
+    sym (drop-at a b (length a) refl) ∙ ap (lib.ListN.drop (length a)) e ∙ drop-at c d (length a) (sym long))
