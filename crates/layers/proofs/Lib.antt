@@ -1,4 +1,6 @@
 pub mod Cases
+pub mod JoinCalls
+pub mod JoinLaws
 pub mod Joined
 pub mod Pieces
 pub mod Reversed

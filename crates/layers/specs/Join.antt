@@ -59,9 +59,13 @@ unless-refused (Err fault) m = Err fault
 abbrev pub join-made : Bool → Meaning → Meaning → Result Meaning JoinFault
 join-made swing a b = unless-refused (join-size a b) (join-of swing a b)
 
+-- what a join means, given what the two walks mean
+abbrev pub join-meaning : {L R : Type 0} → (L → Meaning) → (R → Meaning) → Join L R → Meaning
+join-meaning left-meaning right-meaning j = joined (swings (j .order)) (left-meaning (j .left)) (right-meaning (j .right))
+
 -- The maker answers the walk that making gives, or the fault, and with it both walks as they were.
 abbrev pub Joins : {L R : Type 0} → (L → Meaning) → (R → Meaning) → Bool → L → R → Result (Join L R) (JoinRefused L R) → Type 0
 Joins left-meaning right-meaning swing left right (Ok j) =
-    join-made swing (left-meaning left) (right-meaning right) ≡ Ok (joined (swings (j .order)) (left-meaning (j .left)) (right-meaning (j .right)))
+    join-made swing (left-meaning left) (right-meaning right) ≡ Ok (join-meaning left-meaning right-meaning j)
 Joins left-meaning right-meaning swing left right (Err e) =
     (join-made swing (left-meaning left) (right-meaning right) ≡ Err (e .fault)) × (e .left ≡ left) × (e .right ≡ right)

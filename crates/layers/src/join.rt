@@ -7,7 +7,7 @@ ghost use Rattle.std.specs.declared.result.Result.the-variants.{Ok};
 ghost use Rattle.walk.specs.Meaning.{size, standing};
 ghost use Rattle.walk.specs.Rows.{odd};
 ghost use Rattle.layers.specs.Steps.{steps, after-step};
-ghost use Rattle.layers.specs.Join.{swings, mirrored, joined-label, join-size, joined, Joins};
+ghost use Rattle.layers.specs.Join.{swings, mirrored, joined-label, join-size, join-meaning, Joins};
 use super::fault::JoinFault;
 use walk::Walk;
 use walk::answers::Refusal;
@@ -103,7 +103,7 @@ impl<L: Walk, R: Walk> Join<L, R> {
 
     // The number of rows.
     fn rows(&self) -> u32
-        ensures { λ r. ⌜ r ≡ size (joined (swings (now (self .entry) .order)) (L·Walk .meaning (now (self .entry) .left)) (R·Walk .meaning (now (self .entry) .right))) ⌝ }
+        ensures { λ r. ⌜ r ≡ size (join-meaning (L·Walk .meaning) (R·Walk .meaning) (now (self .entry))) ⌝ }
     {
         join_size(&self.left, &self.right).unwrap_or(0)
     }
@@ -128,8 +128,8 @@ impl<L: Walk, R: Walk> Join<L, R> {
 
     // Goes down or up by one label: the right walk steps if it can, and else the left one.
     fn step(&mut self, down: bool) -> Result<(), Refusal>
-        ensures answer { λ r. ⌜ r ≡ steps down (joined (swings (now (self .entry) .order)) (L·Walk .meaning (now (self .entry) .left)) (R·Walk .meaning (now (self .entry) .right))) ⌝ }
-        ensures after { λ _. ⌜ joined (swings (now (self .exit) .order)) (L·Walk .meaning (now (self .exit) .left)) (R·Walk .meaning (now (self .exit) .right)) ≡ after-step down (joined (swings (now (self .entry) .order)) (L·Walk .meaning (now (self .entry) .left)) (R·Walk .meaning (now (self .entry) .right))) ⌝ }
+        ensures answer { λ r. ⌜ r ≡ steps down (join-meaning (L·Walk .meaning) (R·Walk .meaning) (now (self .entry))) ⌝ }
+        ensures after { λ _. ⌜ join-meaning (L·Walk .meaning) (R·Walk .meaning) (now (self .exit)) ≡ after-step down (join-meaning (L·Walk .meaning) (R·Walk .meaning) (now (self .entry))) ⌝ }
     {
         if self.rows() == 0 {
             return Err(Refusal::NoSuchLabel);
@@ -147,7 +147,7 @@ impl<L: Walk, R: Walk> Join<L, R> {
 }
 
 pub impl<L: Walk, R: Walk> Walk for Join<L, R> as JoinWalk {
-    ghost meaning = { λ s. joined (swings (s .order)) (L·Walk .meaning (s .left)) (R·Walk .meaning (s .right)) };
+    ghost meaning = { join-meaning (L·Walk .meaning) (R·Walk .meaning) };
 
     fn size(&self) -> u32 {
         self.rows()

@@ -1,0 +1,4 @@
+use Rattle.layers.proofs.join.Join.new.Needs as need
+
+pub returns : need.returns
+returns g c = ?
