@@ -48,6 +48,16 @@ module _ (m : Meaning) where
   read-some : (tray : List ℕ) → 0 < size m → reads m tray ≡ cond (ltb (length tray) (m .width)) (Err ShortTray) (Ok tt)
   read-some tray h = cond-false _ _ _ (ne-eqb (size m) 0 (λ e. omega arith))
 
+-- `read` writes the row into a tray that is long enough
+pub read-row : (m : Meaning) (tray : List ℕ) → 0 < size m → m .width ≤ length tray → (reads m tray ≡ Ok tt) × (after-read m tray ≡ row m (m .place) ++ drop (m .width) tray)
+read-row m tray some long =
+    let told : reads m tray ≡ Ok tt = read-some m tray some ∙ cond-false _ _ _ (le-ltb (length tray) (m .width) long) in
+    (told, cond-true _ _ _ (ap isOk told))
+
+-- to go to the first row leaves a walk without rows where it is, which is 0
+pub first-place : (m : Meaning) → Lawful m → after-seek m 0 ≡ standing m 0
+first-place m lawful = ⊎-elim (λ some. seek-in m 0 some .1) (λ none. seek-out m 0 none .1 ∙ ap (standing m) (lawful .inside .1 (omega arith))) (cases-lt 0 (size m))
+
 -- the label of a row, with what it tells of the list
 pub record Labelled (rows : List Row) (r : Row) : Type 0 where
   pub label : ℕ

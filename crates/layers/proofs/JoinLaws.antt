@@ -66,12 +66,6 @@ pub turns-over : (swing : Bool) (i h : ℕ) → swing ≡ true → odd h ≡ not
 turns-over true i h told other = other
 turns-over false i h told other = absurd (false≢true told)
 
--- a product that is not 0 has no factor 0
-pub factors-some : (m n : ℕ) → 0 < m * n → (0 < m) × (0 < n)
-factors-some m n lt =
-    (⊎-elim (λ some. some) (λ none. let e : m ≡ 0 = omega arith in absurd (omega (arith, ap (λ x. x * n) e ∙ zero-mul n))) (cases-lt 0 m),
-    ⊎-elim (λ some. some) (λ none. let e : n ≡ 0 = omega arith in absurd (omega (arith, ap (λ x. m * x) e ∙ mul-zero m))) (cases-lt 0 n))
-
 -- there is one label at most in no rows
 mirrored-none : (back : Bool) → mirrored back 0 0 ≡ 0
 mirrored-none true = refl

@@ -1,13 +1,15 @@
 -- Where the rows of a join stand. Assumes nothing.
 use mathlib.Core.Path.{_≡_, refl, sym, ap, ap₂, _∙_}
+use mathlib.Core.Logic.{⊎-elim}
 use mathlib.Core.Bool.{Bool, true, false, not, cond, _&&_}
 use mathlib.Core.List.{List, [], _∷_, _++_, map}
 use Prim.Native.Nat.{ℕ, zero, suc, _+_, _-_, _*_, _/_, _%_, _≤_, _<_}
 use native.Mathlib.Omega.{arith}
-use native.Mathlib.Nat.{zero-add, zero-mul, suc-mul}
+use native.Mathlib.Nat.{zero-add, zero-mul, mul-zero, suc-mul}
 use lib.ListN.{length}
 use Rattle.std.proofs.shelf.Bits.{div-below, mod-below, div-add-mod', mul-add-lt}
 use Rattle.std.proofs.shelf.Lists.{length-append, length-map, getD-append-left, getD-append-add, getD-map, take-at, drop-at}
+use Rattle.std.proofs.shelf.Tests.{cases-lt}
 use Rattle.walk.specs.Rows.{Row, row-at, odd, turned}
 use Rattle.walk.proofs.Turned.{length-turned, row-turned}
 use Rattle.layers.specs.Join.{joined-from, joined-rows, mirrored, joined-label}
@@ -66,18 +68,28 @@ pub record Pair (swing : Bool) (m n label : ℕ) : Type 0 where
   pub right-below : right < n
   pub is : label ≡ joined-label swing n left right
 
+-- a product that is not 0 has no factor 0
+pub factors-some : (m n : ℕ) → 0 < m * n → (0 < m) × (0 < n)
+factors-some m n lt =
+    (⊎-elim (λ some. some) (λ none. let e : m ≡ 0 = omega arith in absurd (omega (arith, ap (λ x. x * n) e ∙ zero-mul n))) (cases-lt 0 m),
+    ⊎-elim (λ some. some) (λ none. let e : n ≡ 0 = omega arith in absurd (omega (arith, ap (λ x. m * x) e ∙ mul-zero m))) (cases-lt 0 n))
+
+-- the row under the quotient at the remainder has the label
+pub label-divided : (swing : Bool) (n label : ℕ) → 0 < n → joined-label swing n (label / n) (mirrored (swing && odd (label / n)) n (label % n)) ≡ label
+label-divided swing n label some =
+    ap (λ k. label / n * n + k) (mirrored-twice (swing && odd (label / n)) n (label % n) (mod-below label n some)) ∙ div-add-mod' label n
+
 -- at every label a pair of rows stands
 pub pair-at : (swing : Bool) (m n label : ℕ) → label < m * n → Pair swing m n label
-pair-at swing m zero label lt = absurd (omega (arith, native.Mathlib.Nat.mul-zero m))
-pair-at swing m (suc n) label lt =
-    let back = swing && odd (label / suc n) in
-    let inner = mod-below label (suc n) (omega arith) in
+pair-at swing m n label lt =
+    let some = factors-some m n (omega arith) .1 in
+    let back = swing && odd (label / n) in
     record {
-      left = label / suc n;
-      right = mirrored back (suc n) (label % suc n);
-      left-below = div-below label (suc n) m (omega arith) lt;
-      right-below = mirrored-below back (suc n) (label % suc n) inner;
-      is = sym (ap (λ k. label / suc n * suc n + k) (mirrored-twice back (suc n) (label % suc n) inner) ∙ div-add-mod' label (suc n));
+      left = label / n;
+      right = mirrored back n (label % n);
+      left-below = div-below label n m some lt;
+      right-below = mirrored-below back n (label % n) (mod-below label n some);
+      is = sym (label-divided swing n label some);
     }
 
 -- rows of one width that are followed by others are the same where the whole rows are, and so are those that follow

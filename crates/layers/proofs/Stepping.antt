@@ -1,13 +1,14 @@
 -- One step up or down, in a walk and in the labels of a join. Assumes nothing.
 use mathlib.Core.Path.{_≡_, refl, sym, ap, ap₂, _∙_}
 use mathlib.Core.Logic.{_⊎_, inl, inr, ⊎-elim}
-use mathlib.Core.Bool.{Bool, true, false, not, cond, _&&_}
+use mathlib.Core.Bool.{Bool, Bool·beq, true, false, not, cond, _&&_}
 use Prim.Native.Nat.{ℕ, suc, _+_, _-_, _*_, _≤_, _<_}
 use native.Mathlib.Omega.{arith}
 use native.Mathlib.Nat.{suc-mul}
 use native.Mathlib.Numerals.{add-one}
+use Rattle.std.specs.Results.{isOk}
 use Rattle.std.specs.declared.result.Result.the-variants.{Ok, Err}
-use Rattle.std.proofs.shelf.Tests.{cases-lt}
+use Rattle.std.proofs.shelf.Tests.{cases-lt, both-ways}
 use Rattle.std.proofs.shelf.Ways.{tells}
 use Rattle.walk.specs.Rows.{odd}
 use Rattle.walk.specs.Meaning.{Meaning, Lawful, size, standing}
@@ -28,7 +29,7 @@ At-end false n p = n ≤ p + 1
 
 -- the way that the right walk goes: the other one under a left row at which its rows come backward
 abbrev pub way : Bool → Bool → Bool
-way back down = cond back (not down) down
+way back down = not (Bool·beq back down)
 
 -- from every label a step leads to the next label, or there is none
 pub step-cases : (down : Bool) (n p : ℕ) → p < n → ((q : ℕ) × (q < n) × Steps-to down p q) ⊎ At-end down n p
@@ -48,6 +49,14 @@ step-in false m q to lt =
 pub step-out : (down : Bool) (m : Meaning) → At-end down (size m) (m .place) → (steps down m ≡ Err NoSuchLabel) × (after-step down m ≡ m)
 step-out true m end = back-out m end
 step-out false m end = seek-out m (m .place + 1) end
+
+-- a step that is accepted leads to a label
+pub step-accepted : (down : Bool) (m : Meaning) → m .place < size m → isOk (steps down m) ≡ true → (q : ℕ) × (q < size m) × Steps-to down (m .place) q
+step-accepted down m inside ok = ⊎-elim (λ to. to) (λ end. absurd (both-ways (isOk (steps down m)) (ap isOk (step-out down m end .0)) ok)) (step-cases down (size m) (m .place) inside)
+
+-- a step is refused at the end
+pub step-refused : (down : Bool) (m : Meaning) → m .place < size m → isOk (steps down m) ≡ false → At-end down (size m) (m .place)
+step-refused down m inside none = ⊎-elim (λ (q, lt, to). absurd (both-ways (isOk (steps down m)) none (ap isOk (step-in down m q to lt .0)))) (λ end. end) (step-cases down (size m) (m .place) inside)
 
 -- odd and even alternate
 pub odd-suc : (v : ℕ) → odd (suc v) ≡ not (odd v)
