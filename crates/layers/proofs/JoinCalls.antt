@@ -138,8 +138,8 @@ module _ (swing : Bool) (a b : Meaning) where
     pub join-missing : (r : Row) → ((i j : ℕ) → i < size a → j < size b → row a i ++ row b j ≡ r → ⊥) → finds (joined swing a b) r ≡ Err NoSuchRow
     join-missing r none =
         finds-none (joined swing a b) r (λ label lt e.
-          let p = pair-at swing (size a) (size b) label (omega (arith, rows .all)) in
-          none (p .left) (p .right) (p .left-below) (p .right-below) (sym (pair-row (p .left) (p .right) (p .left-below) (p .right-below)) ∙ ap (row (joined swing a b)) (sym (p .is)) ∙ e))
+        let p = pair-at swing (size a) (size b) label (omega (arith, rows .all)) in
+        none (p .left) (p .right) (p .left-below) (p .right-below) (sym (pair-row (p .left) (p .right) (p .left-below) (p .right-below)) ∙ ap (row (joined swing a b)) (sym (p .is)) ∙ e))
 
     -- `read` writes the left row and then, behind it, the right one
     pub join-reads : (tray front rest back : List ℕ) (w : ℕ) → w ≡ a .width → a .width + b .width ≤ length tray →
@@ -164,10 +164,11 @@ module _ (swing : Bool) (a b : Meaning) where
         let kept : take w front ≡ left = ap₂ take wide front-has ∙ take-at left (drop (a .width) tray) (a .width) wide-left in
         let written : take n back ≡ back = take-all n back (omega arith) in
         let none : drop (w + n) front ≡ [] = drop-all (w + n) front (omega arith) in
-        let end : back ≡ right ++ drop (a .width + b .width) tray = back-has ∙ ap (λ r. right ++ drop (b .width) r) rest-has ∙ ap (λ d. right ++ d) (drop-drop (b .width) (a .width) tray) in
-        (below .0 ∙ sym (here .0),
-        putMid-paste w n front back back n refl refl (sym back-long) ∙ ap₂ _++_ (ap₂ _++_ kept written) none ∙ append-nil (left ++ back) ∙ ap (λ x. left ++ x) end
-        ∙ sym (append-assoc left right (drop (a .width + b .width) tray)) ∙ sym (here .1 ∙ ap₂ (λ r w. r ++ drop w tray) both width))
+        let end : back ≡ right ++ drop (a .width + b .width) tray = back-has ∙ ap (λ r. right ++ drop (b .width) r) rest-has ∙ ap (λ d. right ++ d) (drop-drop (b .width) (a .width) tray) in (
+          below .0 ∙ sym (here .0),
+          putMid-paste w n front back back n refl refl (sym back-long) ∙ ap₂ _++_ (ap₂ _++_ kept written) none ∙ append-nil (left ++ back) ∙ ap (λ x. left ++ x) end
+              ∙ sym (append-assoc left right (drop (a .width + b .width) tray)) ∙ sym (here .1 ∙ ap₂ (λ r w. r ++ drop w tray) both width),
+        )
 
     -- a row of another length is not in the join
     pub join-lost-width : (r : Row) → (length r ≡ a .width + b .width → ⊥) → finds (joined swing a b) r ≡ Err NoSuchRow

@@ -110,9 +110,9 @@ module _ (swing : Bool) (a b : Meaning) where
         let p = join-of-pair label lt in
         let long = lawful-a .wide (p .left) (p .left-below) in
         rw (join-of-row label p) (⊎-elim
-          (λ front. rw (getD-append-left (row a (p .left)) (row b (p .right)) 0 k (omega arith)) (lawful-a .bytes (p .left) k (p .left-below) front))
-          (λ end. rw (getD-append-right (row a (p .left)) (row b (p .right)) (a .width) k 0 long end) (lawful-b .bytes (p .right) (k - a .width) (p .right-below) (omega arith)))
-          (cases-lt k (a .width)))
+        (λ front. rw (getD-append-left (row a (p .left)) (row b (p .right)) 0 k (omega arith)) (lawful-a .bytes (p .left) k (p .left-below) front))
+        (λ end. rw (getD-append-right (row a (p .left)) (row b (p .right)) (a .width) k 0 long end) (lawful-b .bytes (p .right) (k - a .width) (p .right-below) (omega arith)))
+        (cases-lt k (a .width)))
 
     -- no two rows are the same
     apart : Apart (joined-rows swing (a .rows) (b .rows))

@@ -1,5 +1,5 @@
 -- Where the rows of a join stand. Assumes nothing.
-use mathlib.Core.Path.{_≡_, refl, sym, ap, ap₂, _∙_}
+use mathlib.Core.Path.{_≡_, refl, sym, ap, ap₂, subst, _∙_}
 use mathlib.Core.Logic.{⊎-elim}
 use mathlib.Core.Bool.{Bool, true, false, not, cond, _&&_}
 use mathlib.Core.List.{List, [], _∷_, _++_, map}
@@ -70,14 +70,25 @@ pub record Pair (swing : Bool) (m n label : ℕ) : Type 0 where
 
 -- a product that is not 0 has no factor 0
 pub factors-some : (m n : ℕ) → 0 < m * n → (0 < m) × (0 < n)
-factors-some m n lt =
-    (⊎-elim (λ some. some) (λ none. let e : m ≡ 0 = omega arith in absurd (omega (arith, ap (λ x. x * n) e ∙ zero-mul n))) (cases-lt 0 m),
-    ⊎-elim (λ some. some) (λ none. let e : n ≡ 0 = omega arith in absurd (omega (arith, ap (λ x. m * x) e ∙ mul-zero m))) (cases-lt 0 n))
+factors-some m n lt = (
+  ⊎-elim (λ some. some) (λ none. let e : m ≡ 0 = omega arith in absurd (omega (arith, ap (λ x. x * n) e ∙ zero-mul n))) (cases-lt 0 m),
+  ⊎-elim (λ some. some) (λ none. let e : n ≡ 0 = omega arith in absurd (omega (arith, ap (λ x. m * x) e ∙ mul-zero m))) (cases-lt 0 n),
+)
 
 -- the row under the quotient at the remainder has the label
 pub label-divided : (swing : Bool) (n label : ℕ) → 0 < n → joined-label swing n (label / n) (mirrored (swing && odd (label / n)) n (label % n)) ≡ label
 label-divided swing n label some =
     ap (λ k. label / n * n + k) (mirrored-twice (swing && odd (label / n)) n (label % n) (mod-below label n some)) ∙ div-add-mod' label n
+
+-- so that label has the pair of the quotient and the mirrored remainder
+pub pair-divided : (swing : Bool) (m k n label j : ℕ) → n ≡ k → label < m * k → j ≡ mirrored (swing && odd (label / n)) n (label % n) →
+    (label / n < m) × (j < k) × (joined-label swing k (label / n) j ≡ label)
+pair-divided swing m k n label j is lt j-is =
+    let some : 0 < n = omega (arith, factors-some m k (omega arith) .1) in (
+      div-below label n m some (subst (λ x. label < m * x) (sym is) lt),
+      omega (arith, mirrored-below (swing && odd (label / n)) n (label % n) (mod-below label n some)),
+      ap₂ (λ x y. joined-label swing x (label / n) y) (sym is) j-is ∙ label-divided swing n label some,
+    )
 
 -- at every label a pair of rows stands
 pub pair-at : (swing : Bool) (m n label : ℕ) → label < m * n → Pair swing m n label
@@ -94,6 +105,7 @@ pair-at swing m n label lt =
 
 -- rows of one width that are followed by others are the same where the whole rows are, and so are those that follow
 pub parts-same : (a b c d : Row) → length a ≡ length c → a ++ b ≡ c ++ d → (a ≡ c) × (b ≡ d)
-parts-same a b c d long e =
-    (sym (take-at a b (length a) refl) ∙ ap (lib.ListN.take (length a)) e ∙ take-at c d (length a) (sym long),
-    sym (drop-at a b (length a) refl) ∙ ap (lib.ListN.drop (length a)) e ∙ drop-at c d (length a) (sym long))
+parts-same a b c d long e = (
+  sym (take-at a b (length a) refl) ∙ ap (lib.ListN.take (length a)) e ∙ take-at c d (length a) (sym long),
+  sym (drop-at a b (length a) refl) ∙ ap (lib.ListN.drop (length a)) e ∙ drop-at c d (length a) (sym long),
+)

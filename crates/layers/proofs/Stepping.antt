@@ -58,6 +58,11 @@ step-accepted down m inside ok = ⊎-elim (λ to. to) (λ end. absurd (both-ways
 pub step-refused : (down : Bool) (m : Meaning) → m .place < size m → isOk (steps down m) ≡ false → At-end down (size m) (m .place)
 step-refused down m inside none = ⊎-elim (λ (q, lt, to). absurd (both-ways (isOk (steps down m)) none (ap isOk (step-in down m q to lt .0)))) (λ end. end) (step-cases down (size m) (m .place) inside)
 
+-- no step leads anywhere where there are no rows
+pub step-none : (down : Bool) (m : Meaning) → Lawful m → size m ≡ 0 → (steps down m ≡ Err NoSuchLabel) × (after-step down m ≡ m)
+step-none true m lawful none = step-out true m (lawful .inside .1 none)
+step-none false m lawful none = step-out false m (omega arith)
+
 -- odd and even alternate
 pub odd-suc : (v : ℕ) → odd (suc v) ≡ not (odd v)
 odd-suc v = grind (arith, tells)

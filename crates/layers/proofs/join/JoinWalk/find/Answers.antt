@@ -1,5 +1,5 @@
-use mathlib.Core.Path.{sym, ap, _∙_}
-use mathlib.Core.Logic.{⊎-elim}
+use mathlib.Core.Path.{_≡_, sym, ap, ap₂, _∙_}
+use mathlib.Core.List.{_++_}
 use native.Mathlib.Omega.{arith}
 use Prim.Native.Nat.{_-_}
 use lib.ListN.{length, take, drop}
@@ -23,9 +23,10 @@ returns-then-rows-eq0 g c =
     let lawful-b = g .R·Walk·met .lawful (self .right) in
     let r = c .args .row .now in
     elim (c .then-rows-eq0 .came) [
-      then-rows-eq0·by·then-rows-eq0 w ↦ sym (finds-none (joined swing a b) r (λ i lt e. omega (arith, w .if-rows-eq0 .taken)))
-    | then-rows-eq0·by·else-rows-eq0·then-row-width w ↦
-      sym (join-lost-width swing a b lawful-a lawful-b (some-rows swing a b (omega (arith, w .if-rows-eq0 .left))) r (λ e. w .if-row-width .taken (omega (arith, w .width .ensures)))) ]
+      | then-rows-eq0·by·then-rows-eq0 w ↦ sym (finds-none (joined swing a b) r (λ i lt e. omega (arith, w .if-rows-eq0 .taken)))
+      | then-rows-eq0·by·else-rows-eq0·then-row-width w ↦
+          sym (join-lost-width swing a b lawful-a lawful-b (some-rows swing a b (omega (arith, w .if-rows-eq0 .left))) r (λ e. w .if-row-width .taken (omega (arith, w .width .ensures))))
+    ]
 
 pub returns-in-Break-i : need.returns-in-Break-i
 returns-in-Break-i g c =
@@ -37,7 +38,7 @@ returns-in-Break-i g c =
     let lawful-b = g .R·Walk·met .lawful (self .right) in
     let rows = some-rows swing a b (omega arith) in
     let why = err-from-errBy (c .from-residual .result) (c .from-residual .ensures .1) in
-    why .1 ∙ ap Err (why .2) ∙ sym (join-lost-left swing a b lawful-a lawful-b rows (c .args .row .now) _ _ ? (c .in-Break-i .ensures tt))
+    why .1 ∙ ap Err (why .2) ∙ sym (join-lost-left swing a b lawful-a lawful-b rows (c .args .row .now) _ _ (ap (λ n. take n (c .args .row .now)) (omega arith)) (c .in-Break-i .ensures tt))
 
 pub returns-in-Break-j : need.returns-in-Break-j
 returns-in-Break-j g c =
@@ -48,8 +49,8 @@ returns-in-Break-j g c =
     let lawful-a = g .L·Walk·met .lawful (self .left) in
     let lawful-b = g .R·Walk·met .lawful (self .right) in
     let rows = some-rows swing a b (omega arith) in
-    let why = err-from-errBy (c .from-residual .result) (c .from-residual .ensures .1) in
-    why .1 ∙ ap Err (why .2) ∙ sym (join-lost-right swing a b lawful-a lawful-b rows (c .args .row .now) _ _ ? (c .in-Break-j .ensures tt))
+    let why = err-from-errBy (c .from-residual-in-Break-j .result) (c .from-residual-in-Break-j .ensures .1) in
+    why .1 ∙ ap Err (why .2) ∙ sym (join-lost-right swing a b lawful-a lawful-b rows (c .args .row .now) _ _ (take-rest (c .args .row .now) (c .width-width .result) ∙ ap (λ n. drop n (c .args .row .now)) (c .width-width .ensures)) (c .in-Break-j .ensures tt))
 
 pub label-requires : need.label-requires
 label-requires g c κs =
@@ -69,4 +70,7 @@ returns g c =
     let lawful-a = g .L·Walk·met .lawful (self .left) in
     let lawful-b = g .R·Walk·met .lawful (self .right) in
     let rows = some-rows swing a b (omega arith) in
-    ap Ok (c .label .ensures) ∙ sym (join-found swing a b lawful-a lawful-b rows (c .args .row .now) _ _ (c .in-Continue-i .i) (c .in-Continue-j .j) ? (c .in-Continue-i .ensures tt) (c .in-Continue-j .ensures tt))
+    let r = c .args .row .now in
+    let w = c .width-width .result in
+    let parts : take (w - 0) r ++ take (length r - w) (drop w r) ≡ r = ap₂ _++_ (ap (λ n. take n r) (omega arith)) (take-rest r w) ∙ take-append-drop w r in
+    ap Ok (c .label .ensures) ∙ sym (join-found swing a b lawful-a lawful-b rows r _ _ (c .in-Continue-i .i) (c .in-Continue-j .j) parts (c .in-Continue-i .ensures tt) (c .in-Continue-j .ensures tt))
