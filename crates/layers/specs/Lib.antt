@@ -1,0 +1,5 @@
+pub mod Fault
+pub mod Join
+pub mod Part
+pub mod Reverse
+pub mod Steps
