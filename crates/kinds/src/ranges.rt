@@ -47,7 +47,7 @@ pub fn stocks_fit(n: u16, t: u16, list: &[u16]) -> bool
 pub fn choice_fits(n: u16, t: u16) -> bool
     ensures { λ r. ⌜ r ≡ choice-fits n t ⌝ }
 {
-    n <= 32 && t <= 32
+    t <= 32 && n <= 32
 }
 
 // Whether the list has n counts, up to 32, with a sum up to 32.
