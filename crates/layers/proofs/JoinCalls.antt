@@ -1,19 +1,18 @@
 -- How the calls of a join follow from those of the two walks. Assumes nothing.
 use mathlib.Core.Path.{_≡_, refl, sym, ap, ap₂, subst, _∙_}
-use mathlib.Core.Logic.{_⊎_, inl, inr, ⊎-elim}
+use mathlib.Core.Logic.{⊎-elim}
 use mathlib.Core.Bool.{Bool, true, false, not, cond, _&&_}
-use mathlib.Core.List.{List, [], _∷_, _++_, append-assoc}
-use Prim.Native.Nat.{ℕ, _+_, _-_, _*_, _/_, _%_, _≤_, _<_}
+use mathlib.Core.List.{List, [], _++_, append-assoc}
+use Prim.Native.Nat.{ℕ, _+_, _-_, _*_, _≤_, _<_}
 use native.Mathlib.Omega.{arith}
 use native.Mathlib.Nat.{zero-mul}
 use lib.Dec.{eqb}
 use lib.ListN.{length, take, drop}
 use borrow.Rule.Slice.PartMut.{putMid}
 use Rattle.std.specs.Results.{isOk, valueOr}
-use Rattle.std.specs.declared.result.Result.{Result}
 use Rattle.std.specs.declared.result.Result.the-variants.{Ok, Err}
 use Rattle.std.proofs.shelf.Bits.{mul-add-lt}
-use Rattle.std.proofs.shelf.Lists.{append-nil, length-append, length-drop, take-append-drop, take-at, drop-at, take-all, drop-all, drop-drop}
+use Rattle.std.proofs.shelf.Lists.{append-nil, length-append, length-drop, take-at, drop-at, take-all, drop-all, drop-drop}
 use Rattle.std.proofs.shelf.Parts.{putMid-paste}
 use Rattle.std.proofs.shelf.Tests.{both-ways, cond-true, cond-false, ne-eqb, and-right}
 use Rattle.walk.specs.Rows.{Row, odd}
@@ -25,10 +24,10 @@ use Rattle.walk.specs.declared.answers.Refusal.the-variants.{NoSuchLabel, NoSuc
 use Rattle.layers.specs.Steps.{steps, after-step}
 use Rattle.layers.specs.Join.{mirrored, joined-label, join-size, join-of, joined, join-made, unless-refused}
 use Rattle.layers.specs.declared.fault.JoinFault.{JoinFault}
-use Rattle.layers.proofs.Cases.{seek-in, seek-out, read-row, first-place, found, lost, finds-label, finds-none}
+use Rattle.walk.proofs.Cases.{seek-in, read-row, first-place, found, lost, finds-label, finds-none}
 use Rattle.layers.proofs.JoinLaws.{Fits, fits-cases, join-place, turns-over, join-of-size, join-of-row, join-lawful}
-use Rattle.layers.proofs.Joined.{Pair, pair-at, label-below, label-divided, factors-some}
-use Rattle.layers.proofs.Stepping.{Steps-to, At-end, way, step-in, step-out, step-accepted, odd-step, mirrored-below, right-steps, right-ends, turned-ends, left-steps, join-ends}
+use Rattle.layers.proofs.Joined.{pair-at, label-below, factors-some}
+use Rattle.layers.proofs.Stepping.{Steps-to, At-end, way, step-in, step-out, step-accepted, odd-step, right-steps, right-ends, turned-ends, left-steps, join-ends}
 
 -- a join that has rows
 pub record Some-rows (swing : Bool) (a b : Meaning) : Type 0 where

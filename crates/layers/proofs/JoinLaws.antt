@@ -2,18 +2,17 @@
 use mathlib.Core.Path.{_≡_, refl, sym, ap, ap₂, subst, _∙_}
 use mathlib.Core.Logic.{_⊎_, inl, inr, ⊎-elim}
 use mathlib.Core.Bool.{Bool, true, false, not, cond, _&&_}
-use mathlib.Core.List.{List, [], _∷_, _++_}
+use mathlib.Core.List.{[], _∷_, _++_}
 use Prim.Native.Nat.{ℕ, _+_, _-_, _*_, _≤_, _<_}
 use native.Mathlib.Omega.{arith}
-use native.Mathlib.Nat.{zero-mul, mul-zero, zero-add}
+use native.Mathlib.Nat.{mul-zero}
 use lib.Dec.{eqb, leb}
 use lib.ListN.{length, getD}
-use Rattle.std.specs.Results.{isOk, valueOr}
-use Rattle.std.specs.declared.result.Result.{Result}
+use Rattle.std.specs.Results.{isOk}
 use Rattle.std.specs.declared.result.Result.the-variants.{Ok, Err}
 use Rattle.std.proofs.shelf.Lists.{length-append, getD-append-left, getD-append-right}
-use Rattle.std.proofs.shelf.Tests.{cases-lt, cases-bool, cond-true, cond-false, leb-true, lt-leb, leb-false, eq-eqb, ne-eqb, and-parts, false≢true, both-ways}
-use Rattle.walk.specs.Rows.{Row, row-at, Apart, odd, differences}
+use Rattle.std.proofs.shelf.Tests.{cases-lt, cases-bool, cond-true, cond-false, leb-true, eq-eqb, ne-eqb, and-parts, false≢true}
+use Rattle.walk.specs.Rows.{Row, Apart, odd, differences}
 use Rattle.walk.specs.Making.{new-walk}
 use Rattle.walk.specs.Meaning.{Meaning, Lawful, size, row, standing}
 use Rattle.walk.specs.declared.making.MakingFault.the-variants.{TooManyRows}
@@ -21,7 +20,6 @@ use Rattle.walk.proofs.Differences.{differences-behind, differences-same, diffe
 use Rattle.layers.specs.Join.{joined-rows, joined-label, join-size, join-of, joined, mirrored}
 use Rattle.layers.specs.declared.fault.JoinFault.{JoinFault}
 use Rattle.layers.specs.declared.fault.JoinFault.the-variants.{Making, TooWide}
-use Rattle.layers.proofs.Cases.{place-most}
 use Rattle.layers.proofs.Joined.{length-joined, joined-at, label-below, Pair, pair-at, parts-same}
 use Rattle.layers.proofs.Stepping.{Steps-to, At-end, way, step-cases, odd-step, right-steps, right-ends, turned-ends, left-steps, join-ends}
 

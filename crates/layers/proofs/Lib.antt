@@ -1,4 +1,3 @@
-pub mod Cases
 pub mod JoinCalls
 pub mod JoinLaws
 pub mod Joined

@@ -1,22 +1,22 @@
 -- A part of a walk is a walk, and how its calls follow from those below. Assumes nothing.
-use mathlib.Core.Path.{_≡_, refl, sym, ap, ap₂, subst, _∙_}
-use mathlib.Core.Logic.{_⊎_, inl, inr, ⊎-elim}
-use mathlib.Core.Bool.{true, cond}
-use mathlib.Core.List.{List, []}
+use mathlib.Core.Path.{_≡_, refl, sym, ap, ap₂, _∙_}
+use mathlib.Core.Logic.{_⊎_, ⊎-elim}
+use mathlib.Core.Bool.{true}
+use mathlib.Core.List.{List}
 use Prim.Native.Nat.{ℕ, _+_, _-_, _≤_, _<_, min}
 use native.Mathlib.Omega.{arith}
 use lib.Dec.{eqb}
-use lib.ListN.{length, take, drop}
+use lib.ListN.{length}
 use Rattle.std.specs.declared.result.Result.the-variants.{Ok, Err}
 use Rattle.std.proofs.shelf.Lists.{length-take, length-drop, getD-take, getD-drop}
 use Rattle.std.proofs.shelf.Tests.{cases-lt, cond-true, cond-false, cond-both, eq-eqb, ne-eqb}
-use Rattle.walk.specs.Rows.{Row, row-at, differences}
+use Rattle.walk.specs.Rows.{Row, differences}
 use Rattle.walk.specs.Meaning.{Meaning, Lawful, size, row, standing}
-use Rattle.walk.specs.Answers.{seeks, after-seek, backs, after-back, reads, after-read, finds}
+use Rattle.walk.specs.Answers.{reads, after-read, finds}
 use Rattle.walk.specs.declared.answers.Refusal.{Refusal}
-use Rattle.walk.specs.declared.answers.Refusal.the-variants.{NoSuchLabel, NoSuchRow}
+use Rattle.walk.specs.declared.answers.Refusal.the-variants.{NoSuchRow}
 use Rattle.layers.specs.Part.{piece, cut-ahead, cut-behind, cut-start, cut-size, cut}
-use Rattle.layers.proofs.Cases.{place-most, seek-in, seek-out, back-in, back-out, read-none, read-same, found, lost, finds-label, finds-none}
+use Rattle.walk.proofs.Cases.{place-most, read-same, found, lost, finds-label, finds-none}
 
 module _ (m : Meaning) (from n p : ℕ) (fits : from + n ≤ size m) where
   -- a piece has the rows that were asked for

@@ -1,23 +1,22 @@
 -- The rows of a walk backward are a walk, and how its calls follow from those below. Assumes nothing.
-use mathlib.Core.Path.{_≡_, refl, sym, ap, ap₂, subst, _∙_}
-use mathlib.Core.Logic.{_⊎_, inl, inr, ⊎-elim}
+use mathlib.Core.Path.{_≡_, refl, sym, ap, _∙_}
+use mathlib.Core.Logic.{⊎-elim}
 use mathlib.Core.Bool.{true}
-use mathlib.Core.List.{List, [], reverse}
+use mathlib.Core.List.{List, []}
 use Prim.Native.Nat.{ℕ, _+_, _-_, _≤_, _<_}
 use native.Mathlib.Omega.{arith}
 use lib.ListN.{length}
 use Rattle.std.specs.declared.result.Result.the-variants.{Ok, Err}
 use Rattle.std.proofs.shelf.Lists.{getD-reverse, length-reverse}
 use Rattle.std.proofs.shelf.Tests.{cases-lt}
-use Rattle.walk.specs.Rows.{Row, row-at, differences}
+use Rattle.walk.specs.Rows.{Row, differences}
 use Rattle.walk.specs.Meaning.{Meaning, Lawful, size, row, standing}
 use Rattle.walk.specs.Answers.{seeks, after-seek, backs, after-back, reads, after-read, finds}
 use Rattle.walk.specs.declared.answers.Refusal.{Refusal}
-use Rattle.walk.specs.declared.answers.Refusal.the-variants.{NoSuchRow}
 use Rattle.walk.proofs.Differences.{differences-comm}
 use Rattle.walk.proofs.Turned.{apart-reverse}
 use Rattle.layers.specs.Reverse.{reversed}
-use Rattle.layers.proofs.Cases.{place-most, seek-in, seek-out, back-in, back-out, read-none, read-same, found, lost, finds-label, finds-none}
+use Rattle.walk.proofs.Cases.{place-most, seek-in, seek-out, back-in, back-out, read-none, read-same, found, lost, finds-label, finds-none}
 
 -- `advance` backward is `back` below
 abbrev Advances : Meaning → Type 0

@@ -1,7 +1,7 @@
 -- One step up or down, in a walk and in the labels of a join. Assumes nothing.
-use mathlib.Core.Path.{_≡_, refl, sym, ap, ap₂, _∙_}
+use mathlib.Core.Path.{_≡_, refl, sym, ap, _∙_}
 use mathlib.Core.Logic.{_⊎_, inl, inr, ⊎-elim}
-use mathlib.Core.Bool.{Bool, Bool·beq, true, false, not, cond, _&&_}
+use mathlib.Core.Bool.{Bool, Bool·beq, true, false, not, cond}
 use Prim.Native.Nat.{ℕ, suc, _+_, _-_, _*_, _≤_, _<_}
 use native.Mathlib.Omega.{arith}
 use native.Mathlib.Nat.{suc-mul}
@@ -14,8 +14,8 @@ use Rattle.walk.specs.Rows.{odd}
 use Rattle.walk.specs.Meaning.{Meaning, Lawful, size, standing}
 use Rattle.walk.specs.declared.answers.Refusal.the-variants.{NoSuchLabel}
 use Rattle.layers.specs.Steps.{steps, after-step}
-use Rattle.layers.specs.Join.{mirrored, joined-label}
-use Rattle.layers.proofs.Cases.{seek-in, seek-out, back-in, back-out}
+use Rattle.layers.specs.Join.{mirrored}
+use Rattle.walk.proofs.Cases.{seek-in, seek-out, back-in, back-out}
 
 -- q is the label one below p, or one above
 abbrev pub Steps-to : Bool → ℕ → ℕ → Type 0

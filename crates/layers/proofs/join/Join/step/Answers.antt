@@ -5,7 +5,7 @@ use Prim.Native.Nat.{_-_}
 use Rattle.std.specs.Results.{isOk}
 use Rattle.std.specs.declared.result.Result.the-variants.{Err}
 use Rattle.std.proofs.shelf.Results.{err-from-errBy}
-use Rattle.walk.specs.Meaning.{Meaning, size, standing}
+use Rattle.walk.specs.Meaning.{size, standing}
 use Rattle.walk.specs.Rows.{odd}
 use Rattle.layers.specs.Join.{swings, joined}
 use Rattle.layers.specs.Steps.{steps, after-step}

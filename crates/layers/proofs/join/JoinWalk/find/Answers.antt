@@ -8,7 +8,7 @@ use Rattle.std.specs.declared.result.Result.the-variants.{Ok, Err}
 use Rattle.std.proofs.shelf.Lists.{take-rest, take-append-drop}
 use Rattle.std.proofs.shelf.Results.{err-from-errBy}
 use Rattle.layers.specs.Join.{swings, joined}
-use Rattle.layers.proofs.Cases.{found, finds-none}
+use Rattle.walk.proofs.Cases.{found, finds-none}
 use Rattle.layers.proofs.JoinCalls.{some-rows, join-lost-width, join-lost-left, join-lost-right, join-found}
 use Rattle.layers.proofs.join.JoinWalk.find.Needs.{then-rows-eq0·by·then-rows-eq0, then-rows-eq0·by·else-rows-eq0·then-row-width}
 use Rattle.layers.proofs.join.JoinWalk.find.Needs as need

@@ -1,10 +1,10 @@
-use mathlib.Core.Path.{sym, ap, ap₂, _∙_}
+use mathlib.Core.Path.{_∙_}
 use native.Mathlib.Omega.{arith}
 use Prim.Native.Nat.{_-_}
 use lib.ListN.{length, take, drop}
 use Rattle.std.proofs.shelf.Lists.{take-rest}
 use Rattle.layers.specs.Join.{swings}
-use Rattle.layers.proofs.Cases.{not-both, read-row}
+use Rattle.walk.proofs.Cases.{not-both, read-row}
 use Rattle.layers.proofs.JoinCalls.{some-rows, join-reads}
 use Rattle.layers.proofs.join.JoinWalk.read.Needs as need
 

@@ -4,7 +4,7 @@ use Prim.Native.Nat.{_/_, _%_}
 use Rattle.std.proofs.shelf.Bits.{mod-below}
 use Rattle.walk.specs.Meaning.{size}
 use Rattle.layers.specs.Join.{swings, joined, mirrored}
-use Rattle.layers.proofs.Cases.{not-both, seek-in}
+use Rattle.walk.proofs.Cases.{not-both, seek-in}
 use Rattle.layers.proofs.Joined.{pair-divided}
 use Rattle.layers.proofs.JoinCalls.{some-rows, join-seek}
 use Rattle.layers.proofs.join.JoinWalk.seek.Needs as need

@@ -1,8 +1,8 @@
 use mathlib.Core.Path.{sym, ap, _∙_}
 use native.Mathlib.Omega.{arith}
 use Prim.Native.Nat.{_+_, _-_, _<_}
-use Rattle.layers.specs.Part.{cut, cut-start, cut-size, cut-behind}
-use Rattle.layers.proofs.Cases.{seek-in, seek-out}
+use Rattle.layers.specs.Part.{cut, cut-size, cut-behind}
+use Rattle.walk.proofs.Cases.{seek-in, seek-out}
 use Rattle.layers.proofs.Pieces.{part-size, part-standing, cut-behind-most, cut-fits}
 use Rattle.layers.proofs.part.PartWalk.advance.Needs as need
 

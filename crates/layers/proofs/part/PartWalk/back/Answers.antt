@@ -1,9 +1,9 @@
 use mathlib.Core.Path.{sym, ap, _∙_}
 use native.Mathlib.Omega.{arith}
 use Prim.Native.Nat.{_+_, _-_, _<_}
-use Rattle.layers.specs.Part.{cut, cut-start, cut-size, cut-behind}
-use Rattle.layers.proofs.Cases.{back-in}
-use Rattle.layers.proofs.Pieces.{part-standing, cut-behind-most, cut-fits}
+use Rattle.layers.specs.Part.{cut, cut-size, cut-behind}
+use Rattle.walk.proofs.Cases.{back-in}
+use Rattle.layers.proofs.Pieces.{part-standing, cut-behind-most}
 use Rattle.layers.proofs.part.PartWalk.back.Needs as need
 
 pub returns : need.returns

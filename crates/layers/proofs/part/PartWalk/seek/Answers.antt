@@ -1,9 +1,8 @@
 use mathlib.Core.Path.{sym, _∙_}
 use native.Mathlib.Omega.{arith}
 use Prim.Native.Nat.{_+_, _-_, _<_}
-use Rattle.walk.specs.Meaning.{size}
-use Rattle.layers.specs.Part.{cut, cut-start, cut-size}
-use Rattle.layers.proofs.Cases.{not-both, seek-in, seek-out}
+use Rattle.layers.specs.Part.{cut, cut-size}
+use Rattle.walk.proofs.Cases.{not-both, seek-in, seek-out}
 use Rattle.layers.proofs.Pieces.{part-size, part-standing, cut-fits}
 use Rattle.layers.proofs.part.PartWalk.seek.Needs as need
 

@@ -4,7 +4,7 @@ use Prim.Native.Nat.{_-_}
 use Rattle.std.specs.declared.result.Result.the-variants.{Ok, Err}
 use Rattle.std.proofs.shelf.Results.{err-from-errBy}
 use Rattle.layers.proofs.Reversed.{reverse-found, reverse-lost}
-use Rattle.layers.proofs.Cases.{found}
+use Rattle.walk.proofs.Cases.{found}
 use Rattle.layers.proofs.reverse.ReverseWalk.find.Needs as need
 
 pub returns-in-Break-label : need.returns-in-Break-label

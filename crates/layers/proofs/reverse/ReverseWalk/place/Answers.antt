@@ -1,5 +1,5 @@
 use native.Mathlib.Omega.{arith}
-use Rattle.layers.proofs.Cases.{place-most}
+use Rattle.walk.proofs.Cases.{place-most}
 use Rattle.layers.proofs.reverse.ReverseWalk.place.Needs as need
 
 pub sub-result-in-rest : need.sub-result-in-rest

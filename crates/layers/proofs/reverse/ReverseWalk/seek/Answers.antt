@@ -1,7 +1,7 @@
 use mathlib.Core.Path.{sym, ap, _∙_}
 use native.Mathlib.Omega.{arith}
 use Rattle.layers.specs.Reverse.{reversed}
-use Rattle.layers.proofs.Cases.{seek-out}
+use Rattle.walk.proofs.Cases.{seek-out}
 use Rattle.layers.proofs.Reversed.{reverse-size, reverse-seek}
 use Rattle.layers.proofs.reverse.ReverseWalk.seek.Needs as need
 

@@ -1,25 +1,25 @@
 -- What the calls of a walk answer, case by case. Assumes nothing.
 use mathlib.Core.Path.{_≡_, refl, sym, ap, ap₂, subst, _∙_}
 use mathlib.Core.Logic.{_⊎_, inl, inr, ⊎-elim}
-use mathlib.Core.Bool.{Bool, true, false, cond}
+use mathlib.Core.Bool.{true, false, cond}
 use mathlib.Core.List.{List, [], _∷_, _++_}
-use Prim.Native.Nat.{ℕ, zero, suc, _+_, _-_, _≤_, _<_}
+use Prim.Native.Nat.{ℕ, zero, suc, _-_, _≤_, _<_}
 use native.Mathlib.Omega.{arith}
-use lib.Dec.{eqb, ltb}
+use lib.Dec.{ltb}
 use lib.ListN.{length, drop}
 use Rattle.std.specs.Options.{mapped, okOr}
 use Rattle.std.specs.Results.{isOk}
-use Rattle.std.specs.declared.option.Option.{Option}
 use Rattle.std.specs.declared.option.Option.the-variants.{Some, None}
 use Rattle.std.specs.declared.result.Result.{Result}
 use Rattle.std.specs.declared.result.Result.the-variants.{Ok, Err}
 use Rattle.std.proofs.shelf.Tests.{cases-lt, lt-ltb, le-ltb, eq-eqb, ne-eqb, cases-bool, cond-true, cond-false}
 use Rattle.walk.specs.Rows.{Row, row-at, Apart, same-row, label-of}
 use Rattle.walk.specs.Meaning.{Meaning, Lawful, size, row, standing}
 use Rattle.walk.specs.Answers.{seeks, after-seek, backs, after-back, reads, after-read, finds}
 use Rattle.walk.specs.declared.answers.Refusal.{Refusal}
 use Rattle.walk.specs.declared.answers.Refusal.the-variants.{NoSuchLabel, ShortTray, NoSuchRow}
-use Rattle.walk.proofs.Differences.{equal-from-same, label-of-first, label-of-missing, differ-from-unequal}
+use Rattle.walk.proofs.Calls.{reads-ok}
+use Rattle.walk.proofs.Differences.{equal-from-same, label-of-first, label-of-missing}
 
 module _ (m : Meaning) where
   -- `seek` goes to a label
@@ -51,8 +51,7 @@ module _ (m : Meaning) where
 -- `read` writes the row into a tray that is long enough
 pub read-row : (m : Meaning) (tray : List ℕ) → 0 < size m → m .width ≤ length tray → (reads m tray ≡ Ok tt) × (after-read m tray ≡ row m (m .place) ++ drop (m .width) tray)
 read-row m tray some long =
-    let told : reads m tray ≡ Ok tt = read-some m tray some ∙ cond-false _ _ _ (le-ltb (length tray) (m .width) long) in
-    (told, cond-true _ _ _ (ap isOk told))
+    (reads-ok m tray some long, cond-true _ _ _ (ap isOk (reads-ok m tray some long)))
 
 -- to go to the first row leaves a walk without rows where it is, which is 0
 pub first-place : (m : Meaning) → Lawful m → after-seek m 0 ≡ standing m 0
