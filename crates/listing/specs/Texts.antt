@@ -26,3 +26,7 @@ line-text label r = decimal label ++ (codes "," ++ (row-text r ++ codes "\n"))
 -- the names, and up to 1,000 rows in the order of their labels
 abbrev pub listing-text : Meaning → List ℕ
 listing-text m = codes "label,row\n" ++ joined (λ label. line-text label (row m label)) (counting 0 (min (size m) 1000))
+
+-- a fault: the names, and one line with its number, its line and its layer
+abbrev pub fault-text : ℕ → ℕ → List ℕ → List ℕ
+fault-text number line layer = codes "number,line,layer\n" ++ (decimal number ++ (codes "," ++ (decimal line ++ (codes "," ++ (layer ++ codes "\n")))))

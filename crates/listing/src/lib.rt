@@ -6,7 +6,7 @@ ghost use lib.ListN.{length};
 ghost use Rattle.std.specs.Of.String.{string-bytes};
 ghost use Rattle.std.specs.Vec.{made};
 ghost use Rattle.walk.specs.Meaning.{size, row, standing};
-ghost use Rattle.listing.specs.Texts.{gap-text, row-text, line-text, listing-text};
+ghost use Rattle.listing.specs.Texts.{gap-text, row-text, line-text, listing-text, fault-text};
 use std::alloc::AllocError;
 use std::alloc::Global;
 use walk::Walk;
@@ -68,4 +68,11 @@ pub fn listing<W: Walk>(heap: Global, walk: &mut W) -> Result<String, AllocError
     }
     let _ = walk.seek(place);
     Ok(out)
+}
+
+// A fault as text: the names, and one line with its number, its line and its layer.
+pub fn fault_text(heap: Global, number: u8, line: u8, layer: &str) -> Result<String, AllocError>
+    ensures { λ r. ⌜ made r (λ s. string-bytes s ≡ fault-text number line (now (layer .entry))) ⌝ }
+{
+    format!(heap, "number,line,layer\n{number},{line},{layer}\n")
 }
