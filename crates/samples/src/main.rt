@@ -1,0 +1,28 @@
+// Holds what the library says against rows and faults from outside. Each line of standard input has a plan text, in which
+// `~` stands for the byte 10 and `^` for the byte 200, and then, each after a `|`, what is to hold of it:
+//   N,L,LAYER    the text is refused with that number, line and layer
+//   size:N       the walk has so many rows
+//   steady:yes   it is steady, or not: steady:no
+//   L:V V V      the row at the label L is V V V, and the label of V V V is L
+//   none:V V V   no row is V V V
+mod check;
+mod tally;
+mod text;
+
+use std::io;
+use std::io::Read;
+use tally::Tally;
+use text::run;
+
+fn main(rt: LibcRuntime) -> io::Result<()> {
+    let heap = rt.alloc();
+    let mut all = Vec::new(heap);
+    rt.stdin().read_to_end(&mut all)?;
+    let mut tally = Tally::default();
+    for (i, line) in plan::pieces::Pieces::new(&all, b'\n').enumerate() {
+        if !line.is_empty() && !run(heap, line, &mut tally)? {
+            println!(rt, "line {i}: not as expected")?;
+        }
+    }
+    println!(rt, "{tally}")
+}
