@@ -89,10 +89,6 @@ module _ (f : ℕ → List Row) where
       let p = branch-of m i l in
       rw (row-of m i p) (h (p .branch) (p .inner) (p .branch-below) (p .inner-below))
 
-  -- rows of one width get one value wider
-  pub width-branches : (m w : ℕ) → ((v k : ℕ) → v < m → k < length (f v) → length (row-at (f v) k) ≡ w) → (i : ℕ) → i < length (branches m f) → length (row-at (branches m f) i) ≡ suc w
-  width-branches m w h = each-row m (λ r. length r ≡ suc w) (λ v k l o. ap suc (h v k l o))
-
   -- branches of one length
   pub length-uniform : (m c : ℕ) → ((v : ℕ) → v < m → length (f v) ≡ c) → length (branches m f) ≡ m * c
   length-uniform zero c h = sym (zero-mul c)

@@ -24,7 +24,6 @@ use Rattle.kinds.specs.Laws.{Listed, occurrences, Permutation, Apart, Changes-
 use Rattle.kinds.proofs.Branches.{apart-one, length-turned, row-turned}
 use Rattle.kinds.proofs.Gray.{odd-suc}
 use Rattle.kinds.proofs.Just.{Just, just-row, just-empty}
-use Rattle.kinds.proofs.Told.{Told, label-told, apart-label}
 use Rattle.kinds.proofs.Occurrences.{counts-as, counts-other, occurrences-put, occurrences-take, occurs, found, parted}
 use Rattle.kinds.proofs.Swaps.{Swap, swap-sym, swap-behind, swap-before, swap-inserted, swap-steps, swap-exchange}
 
@@ -276,13 +275,6 @@ changes-length (suc n) = weave-length n (changes n) (changes-permutations n) ∙
 pub changes-at : (n i j : ℕ) → i < length (changes n) → j ≤ n → row-at (changes (suc n)) (i * suc n + j) ≡ inserted (row-at (changes n) i) (position n i j) n
 changes-at n = weave-at n (changes n) (changes-permutations n)
 
--- the same by division of the label
-pub changes-row-at : (n l : ℕ) → l < length (changes (suc n)) → row-at (changes (suc n)) l ≡ inserted (row-at (changes n) (l / suc n)) (position n (l / suc n) (l % suc n)) n
-changes-row-at n l h =
-    let inside : l < length (changes n) * suc n = omega (arith, weave-length n (changes n) (changes-permutations n)) in
-    ap (row-at (changes (suc n))) (sym (div-add-mod' l (suc n)))
-    ∙ changes-at n (l / suc n) (l % suc n) (div-below l (suc n) (length (changes n)) (omega arith) inside) (omega (arith, mod-below l (suc n) (omega arith)))
-
 -- no two are the same
 pub changes-apart : (n : ℕ) → Apart (changes n)
 changes-apart zero = apart-one []
@@ -305,21 +297,6 @@ module _ (n i : ℕ) (h : i < length (changes n)) where
   -- of bytes, where n is at most 256
   pub changes-bytes : n ≤ 256 → (k : ℕ) → k < n → getD (row-at (changes n) i) k 0 ≤ 255
   changes-bytes small k l = omega (arith, permutation-below n (row-at (changes n) i) changes-row k l)
-
--- the label of an order, by that of the order without its largest value
-pub changes-label : (n : ℕ) (front back : Row) → label-of (changes (suc n)) (front ++ (n ∷ back)) ≡ mapped (λ i. i * suc n + position n i (length front)) (label-of (changes n) (front ++ back))
-changes-label n front back = by (label-of (changes n) (front ++ back)) (label-told (changes n) (front ++ back))
-  where
-    by : (o : Option ℕ) → Told (changes n) (front ++ back) o → label-of (changes (suc n)) (front ++ (n ∷ back)) ≡ mapped (λ i. i * suc n + position n i (length front)) o
-    by (Some i) told =
-        let (low, at) = weave-put n (changes n) (changes-permutations n) i front back (told .0) (told .1) in
-        apart-label (changes (suc n)) (front ++ (n ∷ back)) (i * suc n + position n i (length front)) (changes-apart (suc n)) low at
-    by None none = label-of-missing (changes (suc n)) (front ++ (n ∷ back))
-        (λ l h e. none (changes-permutations n (front ++ back) .1 (permutation-less n front back (changes-permutations (suc n) (front ++ (n ∷ back)) .0 (l, h, e)))))
-
--- a row that is no order has no label
-pub changes-unlabelled : (n : ℕ) (r : Row) → (Permutation n r → ⊥) → label-of (changes n) r ≡ None
-changes-unlabelled n r none = label-of-missing (changes n) r (λ l h e. none (changes-permutations n r .0 (l, h, e)))
 
 -- the laws together
 pub changes-laws : (n : ℕ) → Changes-laws n (changes n)

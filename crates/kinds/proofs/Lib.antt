@@ -6,7 +6,6 @@ pub mod Entering
 pub mod Fronts
 pub mod Gray
 pub mod Just
-pub mod Lower
 pub mod Made
 pub mod MadeTables
 pub mod MixedRadix
@@ -20,7 +19,6 @@ pub mod ShapeLaws
 pub mod Stock
 pub mod Stretches
 pub mod Swaps
-pub mod Told
 pub mod WayCounts
 pub mod WordCounts
 pub mod WordTree

@@ -124,15 +124,6 @@ module _ (n : ℕ) (counts : List ℕ) (e : sum counts ≡ suc n) where
   pub words-fewer : (v : ℕ) → 0 < getD counts v 0 → length (words-of n (one-less counts v)) ≤ length (words-of (suc n) counts)
   words-fewer v some = omega (arith, before-later (words-branch n counts) v (length counts) (counted-below counts v some), ap length (branch-counted n counts v some))
 
--- a count of 0 at the end changes nothing
-pub factorials-push-none : (counts : List ℕ) → factorials (counts ++ (0 ∷ [])) ≡ factorials counts
-factorials-push-none [] = refl
-factorials-push-none (c ∷ counts) = ap (λ x. factorial c * x) (factorials-push-none counts)
-
-pub words-push-none : (n : ℕ) (counts : List ℕ) → sum counts ≡ n → length (words-of n (counts ++ (0 ∷ []))) ≡ length (words-of n counts)
-words-push-none n counts e = words-length-is n (counts ++ (0 ∷ [])) (length (words-of n counts)) (omega (arith, sumBy-push (λ x. x) counts 0))
-    (ap (λ x. length (words-of n counts) * x) (factorials-push-none counts) ∙ words-count n counts e)
-
 -- one more of the last count
 module _ (n c : ℕ) (counts : List ℕ) (e : sum counts + c ≡ n) where
   push-sum : sum (counts ++ (suc c ∷ [])) ≡ suc n
@@ -151,6 +142,3 @@ module _ (n c : ℕ) (counts : List ℕ) (e : sum counts + c ≡ n) where
       ap (λ x. x * length (words-of (suc n) (counts ++ (suc c ∷ [])))) (sym push-last)
       ∙ words-less n (counts ++ (suc c ∷ [])) push-sum (length counts) (omega (arith, push-last))
       ∙ ap (λ less. suc n * length (words-of n less)) push-less
-
-  pub words-push-more : length (words-of n (counts ++ (c ∷ []))) ≤ length (words-of (suc n) (counts ++ (suc c ∷ [])))
-  words-push-more = omega (arith, words-fewer n (counts ++ (suc c ∷ [])) push-sum (length counts) (omega (arith, push-last)), ap (λ less. length (words-of n less)) push-less)

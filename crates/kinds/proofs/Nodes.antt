@@ -72,18 +72,6 @@ module _ (most : ℕ) (stocks : List ℕ) (t v : ℕ) where
   pub ways-within : v ≤ min most t → ways-before stocks t (suc v) ≤ ways (most ∷ stocks) t
   ways-within h = omega (arith, stock-before, stock-length stocks (t - v), stock-length (most ∷ stocks) t, before-later (stock-branch stocks t) v (suc (min most t)) (omega arith))
 
--- the ways to choose t of one more: without it and with it
-pub ways-ones-none : (n : ℕ) → ways (replicate n 1) 0 ≡ 1
-ways-ones-none zero = refl
-ways-ones-none (suc n) = omega (arith, ways-ones-none n)
-
-pub ways-ones-some : (n t : ℕ) → ways (replicate (suc n) 1) (suc t) ≡ ways (replicate n 1) (suc t) + ways (replicate n 1) t
-ways-ones-some n t =
-    let two : min 1 (suc t) ≡ 1 = omega arith in
-    let all : suc t - 0 ≡ suc t = omega arith in
-    let less : suc t - 1 ≡ t = omega arith in
-    rw (two, all, less) (omega arith)
-
 module _ (n t v : ℕ) where
   pub door-before : before (door-branch n t) v ≡ ways-before (replicate n 1) t v
   door-before = length-branches (door-branch n t) (λ w. ways (replicate n 1) (t - w)) v (λ w h. length-turned (odd w) (door n (t - w)) ∙ door-length n (t - w))

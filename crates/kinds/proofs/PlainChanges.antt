@@ -18,8 +18,8 @@ use Rattle.std.proofs.shelf.Bits.{div-below, mod-below, div-add-mod', mul-add-l
 use Rattle.std.proofs.shelf.Edits.{length-removed}
 use Rattle.std.proofs.shelf.Lists.{append-nil, append-assoc, take-at, drop-at, take-append-drop, take-append-le, drop-append-le, drop-all, drop-more, set-split, length-append, length-drop, length-take-le, getD-at}
 use Rattle.std.proofs.shelf.Tests.{cases-bool, cases-lt, cond-true, cond-false, le-leb, lt-leb}
-use Rattle.walk.specs.Rows.{Row, row-at, same-row, label-of}
-use Rattle.walk.proofs.Differences.{equal-from-same, label-of-first, label-of-missing}
+use Rattle.walk.specs.Rows.{Row, row-at, label-of}
+use Rattle.walk.proofs.Differences.{label-of-listed, label-of-stands, label-of-missing}
 use Rattle.kinds.specs.Counts.{counted}
 use Rattle.kinds.specs.Laws.{Apart, Permutation}
 use Rattle.kinds.specs.Lists.{changes, factorial}
@@ -49,27 +49,6 @@ pub turned-out : (row : Row) (a : ℕ) (part after : Row) → a < length row →
 turned-out row a part after h is so =
     let split : part ≡ getD row a 0 ∷ drop (suc a) row = is ∙ drop-more row a 0 h ∙ ap (λ k. getD row a 0 ∷ drop k row) (add-one a) in
     ap (λ s. take a row ++ s) (so ∙ ap (λ s. drop 1 s ++ take 1 s) split) ∙ sym (append-assoc (take a row) (drop (suc a) row) (getD row a 0 ∷ []))
-
--- where no two rows are the same, the label at which a row stands is its label
-pub label-of-listed : (rows : List Row) (r : Row) (i : ℕ) → Apart rows → i < length rows → row-at rows i ≡ r → label-of rows r ≡ Some i
-label-of-listed rows r i apart h e = label-of-first rows r i h e (λ j l same. omega (arith, apart j i (omega arith) h (same ∙ sym e)))
-
--- a row stands at its label
-pub label-of-stands : (rows : List Row) (r : Row) (i : ℕ) → label-of rows r ≡ Some i → (i < length rows) × (row-at rows i ≡ r)
-label-of-stands [] r i e = let no : _≡_ {A = ℕ} 0 1 = cc e in absurd (omega arith)
-label-of-stands (x ∷ xs) r i e = ⊎-elim here (λ other. further (label-of-stands xs r) (label-of xs r) refl (sym (cond-false (same-row x r) (Some 0) (mapped suc (label-of xs r)) other) ∙ e)) (cases-bool (same-row x r))
-  where
-    here : same-row x r ≡ true → (i < suc (length xs)) × (row-at (x ∷ xs) i ≡ r)
-    here same =
-        let first : i ≡ 0 = cc (e, cond-true (same-row x r) (Some 0) (mapped suc (label-of xs r)) same) in
-        (omega arith, ap (row-at (x ∷ xs)) first ∙ equal-from-same x r same)
-
-    further : ((j : ℕ) → label-of xs r ≡ Some j → (j < length xs) × (row-at xs j ≡ r)) → (o : Option ℕ) → label-of xs r ≡ o → mapped suc o ≡ Some i → (i < suc (length xs)) × (row-at (x ∷ xs) i ≡ r)
-    further stands None is e′ = let no : _≡_ {A = ℕ} 0 1 = cc e′ in absurd (omega arith)
-    further stands (Some j) is e′ =
-        let next : i ≡ suc j = cc e′ in
-        let inner = stands j is in
-        (omega (arith, inner .0), ap (row-at (x ∷ xs)) next ∙ inner .1)
 
 -- more values have no fewer orders
 pub factorial-rises : (m n : ℕ) → m ≤ n → factorial m ≤ factorial n

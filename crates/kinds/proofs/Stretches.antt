@@ -30,15 +30,6 @@ label-in-below : (b : Bool) (from count k : ℕ) → k < count → (from ≤ fro
 label-in-below true from count k lt = (omega arith, omega arith)
 label-in-below false from count k lt = (omega arith, omega arith)
 
--- the whole of a list, from 0 on
-pub stands-whole : (rows : List Row) (size : ℕ) → size ≡ length rows → Stands rows [] (record { from = 0; count = size; backward = false }) rows
-stands-whole rows size e = record {
-  counted = e;
-  fits = omega arith;
-  rows = λ k lt. ap (row-at rows) (omega arith);
-  only = λ i r lt is. (omega arith, omega arith);
-}
-
 -- below a leaf every row is empty
 pub leaf-row : {rows : List Row} → rows ≡ [] ∷ [] → (k : ℕ) → row-at rows k ≡ []
 leaf-row leaf k = ap (λ rows. row-at rows k) leaf ∙ empty k

@@ -12,11 +12,13 @@ use std::alloc::Global;
 fn unescaped(heap: Global, sample: &[u8]) -> Result<Vec<u8>, AllocError> {
     let mut text = Vec::new(heap);
     for byte in sample {
-        text.push(match *byte {
-            b'~' => b'\n',
-            b'^' => 200,
-            other => other,
-        })?;
+        text.push(
+            match *byte {
+                b'~' => b'\n',
+                b'^' => 200,
+                other => other,
+            },
+        )?;
     }
     Ok(text)
 }

@@ -2,6 +2,7 @@
 use mathlib.Core.Path.{_≡_, refl, sym, ap, ap₂, subst, _∙_}
 use mathlib.Core.Bool.{Bool, true, false, cond, _&&_}
 use mathlib.Core.List.{List, [], _∷_}
+use mathlib.Core.Logic.{⊎-elim}
 use Prim.Native.Nat.{ℕ, zero, suc, _+_, _≤_, _<_}
 use native.Mathlib.Omega.{arith}
 use native.Mathlib.Nat.{zero-add}
@@ -12,7 +13,7 @@ use Rattle.std.specs.declared.option.Option.{Option}
 use Rattle.std.specs.declared.option.Option.the-variants.{Some, None}
 use Rattle.std.proofs.shelf.Tests.{eqb-true, eqb-false, eq-eqb, ne-eqb, and-parts, and-from, cases-bool, cond-true, cond-false}
 use Rattle.std.proofs.shelf.Ways.{tells}
-use Rattle.walk.specs.Rows.{Row, row-at, same-row, label-of, differences, lowest, highest}
+use Rattle.walk.specs.Rows.{Row, row-at, Apart, same-row, label-of, differences, lowest, highest}
 
 -- rows that pass the test are equal
 pub equal-from-same : (a b : Row) → same-row a b ≡ true → a ≡ b
@@ -30,7 +31,7 @@ same-itself (x ∷ xs) = and-from (eqb x x) (same-row xs xs) (eq-eqb x x refl) (
 
 -- rows that are not equal fail the test
 pub differ-from-unequal : (a b : Row) → (a ≡ b → ⊥) → same-row a b ≡ false
-differ-from-unequal a b ne = mathlib.Core.Logic.⊎-elim (λ t. absurd (ne (equal-from-same a b t))) (λ f. f) (cases-bool (same-row a b))
+differ-from-unequal a b ne = ⊎-elim (λ t. absurd (ne (equal-from-same a b t))) (λ f. f) (cases-bool (same-row a b))
 
 -- the first label at which a row stands is its label
 pub label-of-first : (rows : List Row) (r : Row) (i : ℕ) → i < length rows → row-at rows i ≡ r → ((j : ℕ) → j < i → row-at rows j ≡ r → ⊥) → label-of rows r ≡ Some i
@@ -106,3 +107,24 @@ differences-comm [] [] = refl
 differences-comm [] (y ∷ ys) = refl
 differences-comm (x ∷ xs) [] = refl
 differences-comm (x ∷ xs) (y ∷ ys) = ap₂ _+_ (grind (arith, tells)) (differences-comm xs ys)
+
+-- where no two rows are the same, the label at which a row stands is its label
+pub label-of-listed : (rows : List Row) (r : Row) (i : ℕ) → Apart rows → i < length rows → row-at rows i ≡ r → label-of rows r ≡ Some i
+label-of-listed rows r i apart h e = label-of-first rows r i h e (λ j l same. omega (arith, apart j i (omega arith) h (same ∙ sym e)))
+
+-- a row stands at its label
+pub label-of-stands : (rows : List Row) (r : Row) (i : ℕ) → label-of rows r ≡ Some i → (i < length rows) × (row-at rows i ≡ r)
+label-of-stands [] r i e = let no : _≡_ {A = ℕ} 0 1 = cc e in absurd (omega arith)
+label-of-stands (x ∷ xs) r i e = ⊎-elim here (λ other. further (label-of-stands xs r) (label-of xs r) refl (sym (cond-false (same-row x r) (Some 0) (mapped suc (label-of xs r)) other) ∙ e)) (cases-bool (same-row x r))
+  where
+    here : same-row x r ≡ true → (i < suc (length xs)) × (row-at (x ∷ xs) i ≡ r)
+    here same =
+        let first : i ≡ 0 = cc (e, cond-true (same-row x r) (Some 0) (mapped suc (label-of xs r)) same) in
+        (omega arith, ap (row-at (x ∷ xs)) first ∙ equal-from-same x r same)
+
+    further : ((j : ℕ) → label-of xs r ≡ Some j → (j < length xs) × (row-at xs j ≡ r)) → (o : Option ℕ) → label-of xs r ≡ o → mapped suc o ≡ Some i → (i < suc (length xs)) × (row-at (x ∷ xs) i ≡ r)
+    further stands None is e′ = let no : _≡_ {A = ℕ} 0 1 = cc e′ in absurd (omega arith)
+    further stands (Some j) is e′ =
+        let next : i ≡ suc j = cc e′ in
+        let inner = stands j is in
+        (omega (arith, inner .0), ap (row-at (x ∷ xs)) next ∙ inner .1)

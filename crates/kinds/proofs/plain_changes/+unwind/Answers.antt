@@ -7,7 +7,8 @@ use Rattle.std.specs.shelf.Lists.{removed}
 use Rattle.walk.specs.Rows.{label-of}
 use Rattle.kinds.specs.Lists.{changes}
 use Rattle.kinds.proofs.Changes.{position-below}
-use Rattle.kinds.proofs.PlainChanges.{rest-label, label-of-stands, label-small, label-more, label-none, label-without}
+use Rattle.walk.proofs.Differences.{label-of-stands}
+use Rattle.kinds.proofs.PlainChanges.{rest-label, label-small, label-more, label-none, label-without}
 use Rattle.kinds.proofs.plain_changes.+unwind.Needs as need
 
 pub returns-in-Break-position : need.returns-in-Break-position
