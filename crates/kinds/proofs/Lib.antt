@@ -6,6 +6,7 @@ pub mod Entering
 pub mod Fronts
 pub mod Gray
 pub mod Just
+pub mod Limits
 pub mod Made
 pub mod MadeTables
 pub mod MixedRadix

@@ -2,6 +2,7 @@
 use mathlib.Core.Path.{_≡_, refl, sym, ap, ap₂, subst, _∙_}
 use mathlib.Core.Bool.{Bool, true, false, _&&_}
 use mathlib.Core.List.{List, [], _∷_}
+use mathlib.Core.Logic.{⊎-elim}
 use Prim.Native.Nat.{ℕ, zero, suc, _-_, _≤_, _<_}
 use native.Mathlib.Nat.{sub-zero}
 use native.Mathlib.Omega.{arith}
@@ -9,19 +10,17 @@ use lib.Dec.{leb, eqb}
 use lib.ListN.{length, getD, take, replicate, length-replicate}
 use Rattle.std.specs.Of.Vec.{vec-items}
 use Rattle.std.specs.declared.alloc.Global.{Global}
-use Rattle.std.specs.declared.option.Option.the-variants.{Some}
 use Rattle.std.specs.declared.result.Result.{Result}
 use Rattle.std.specs.declared.result.Result.the-variants.{Ok, Err}
 use Rattle.std.specs.declared.vec.Vec.{Vec}
 use Rattle.std.specs.shelf.Lists.{sum}
 use Rattle.std.proofs.shelf.Lists.{take-replicate}
-use Rattle.std.proofs.shelf.Tests.{and-parts, and-from, leb-true, le-leb, eqb-true}
-use Rattle.std.proofs.shelf.Ways.{tells}
+use Rattle.std.proofs.shelf.Tests.{and-parts, and-from, cases-lt, leb-true, le-leb, eqb-true}
 use Rattle.walk.specs.Making.{Makes}
 use Rattle.walk.specs.declared.making.MakingFault.{MakingFault}
 use Rattle.walk.specs.declared.making.MakingFault.the-variants.{NoMemory}
 use Rattle.kinds.specs.Bins.{mosts, bins-of, bins-hold, capped, capped-ways}
-use Rattle.kinds.specs.Counts.{counted, Tabled}
+use Rattle.kinds.specs.Counts.{Tabled}
 use Rattle.kinds.specs.Kinds.{radices-fit, stocks-fit, choice-fits, counts-fit}
 use Rattle.kinds.specs.Lists.{product, ways, words, changes, factorial}
 use Rattle.kinds.specs.Ranges.{all-between}
@@ -130,10 +129,6 @@ ones-fitting n t fit =
     let a = and-parts (leb n 32) _ fit in
     record { n-small = leb-true n 32 (a .0); t-small = leb-true t 32 (a .1); long = length-replicate n 1; all = between-replicate 0 32 1 n (omega arith) (omega arith) }
 
--- a count that a walk may have
-pub counted-some : (n size : ℕ) → Some size ≡ counted n → (size ≡ n) × (n ≤ 4294967295)
-counted-some n size is = grind (arith, tells)
-
 -- orders that can be counted are of at most 12 values
 pub few-changes : (n : ℕ) → length (changes n) ≤ 4294967295 → n ≤ 12
-few-changes n few = mathlib.Core.Logic.⊎-elim (λ (lt : n < 13). omega arith) (λ over. absurd (omega (arith, factorial-rises 13 n over, changes-length n))) (Rattle.std.proofs.shelf.Tests.cases-lt n 13)
+few-changes n few = ⊎-elim (λ (lt : n < 13). omega arith) (λ over. absurd (omega (arith, factorial-rises 13 n over, changes-length n))) (cases-lt n 13)

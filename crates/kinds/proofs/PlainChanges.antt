@@ -24,6 +24,7 @@ use Rattle.kinds.specs.Counts.{counted}
 use Rattle.kinds.specs.Laws.{Apart, Permutation}
 use Rattle.kinds.specs.Lists.{changes, factorial}
 use Rattle.kinds.proofs.Changes.{position, position-below, position-back, permutation-less, permutation-last, changes-permutations, changes-length, changes-at, changes-apart}
+use Rattle.kinds.proofs.Limits.{counted-within, counted-over}
 use Rattle.kinds.proofs.Occurrences.{found}
 
 -- a list of which all from a on was written anew
@@ -70,14 +71,13 @@ orders-more k count e = rw add-one (mul-comm count (suc k) ∙ ap (λ m. suc k *
 -- a count that is too large stays so
 pub orders-over : (n k count : ℕ) → k < n → count ≡ factorial k → (count * (k + 1) < 4294967296 → ⊥) → counted (length (changes n)) ≡ None
 orders-over n k count l e over =
-    cond-false (leb (length (changes n)) 4294967295) (Some (length (changes n))) None
-    (lt-leb (length (changes n)) 4294967295 (omega (arith, over, orders-more k count e, changes-length n, factorial-rises (k + 1) n (omega arith))))
+    counted-over (length (changes n)) (omega (arith, over, orders-more k count e, changes-length n, factorial-rises (k + 1) n (omega arith)))
 
 -- the whole count
 pub orders-whole : (n k count : ℕ) → k ≡ n → count ≡ factorial k → count < 4294967296 → Some count ≡ counted (length (changes n))
 orders-whole n k count all e low =
     let is : count ≡ length (changes n) = e ∙ ap factorial all ∙ sym (changes-length n) in
-    ap Some is ∙ sym (cond-true (leb (length (changes n)) 4294967295) (Some (length (changes n))) None (le-leb (length (changes n)) 4294967295 (omega arith)))
+    ap Some is ∙ sym (counted-within (length (changes n)) (omega arith))
 
 -- a row that is no order of the values below its width has no label
 pub label-of-other : (n : ℕ) (r : Row) → length r ≡ n → (Permutation n r → ⊥) → label-of (changes (length r)) r ≡ None

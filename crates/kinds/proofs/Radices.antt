@@ -18,6 +18,7 @@ use Rattle.kinds.specs.Ranges.{all-between}
 use Rattle.kinds.specs.Lists.{product}
 use Rattle.kinds.specs.Shapes.{radices, levels-of, levels-hold}
 use Rattle.kinds.specs.declared.shape.Level.{Level}
+use Rattle.kinds.proofs.Limits.{counted-within, counted-over}
 
 -- a number outside the range ends the test
 pub outside : (low high x : ℕ) (xs : List ℕ) → (x < low) ⊎ ((low ≤ x) × (high < x)) → all-between low high (x ∷ xs) ≡ false
@@ -71,8 +72,7 @@ module _ (rs : List ℕ) (i : ℕ) (lt : i < length rs) where
   count-over count all so over =
       let n = count * getD rs i 0 in
       let large : n * 1 ≤ n * product (drop (i + 1) rs) = mul-le-mul-left n (product-some (drop (i + 1) rs) (between-drop 1 255 rs (i + 1) all)) in
-      cond-false (leb (product rs) 4294967295) (Some (product rs)) None
-      (lt-leb (product rs) 4294967295 (omega (arith, large, mul-one n, count-more count so, over)))
+      counted-over (product rs) (omega (arith, large, mul-one n, count-more count so, over))
 
   -- the radix divides what is left
   pub rest-more : all-between 1 255 rs ≡ true → product (drop i rs) / getD rs i 0 ≡ product (drop (i + 1) rs)
@@ -86,7 +86,7 @@ module _ (rs : List ℕ) (i : ℕ) (lt : i < length rs) where
 pub count-whole : (rs : List ℕ) (i count : ℕ) → length rs ≤ i → count < 4294967296 → count * product (drop i rs) ≡ product rs → Some count ≡ counted (product rs)
 count-whole rs i count end fits so =
     let all : count ≡ product rs = sym (ap (λ n. count * n) (at-drop-all product rs i end) ∙ mul-one count) ∙ so in
-    ap Some all ∙ sym (cond-true (leb (product rs) 4294967295) (Some (product rs)) None (le-leb (product rs) 4294967295 (omega arith)))
+    ap Some all ∙ sym (counted-within (product rs) (omega arith))
 
 -- the levels have the radices
 pub radices-of-levels : (rs : List ℕ) → radices (levels-of rs) ≡ rs

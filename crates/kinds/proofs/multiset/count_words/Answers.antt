@@ -7,7 +7,8 @@ use Rattle.std.proofs.shelf.Sums.{sumBy-more}
 use Rattle.kinds.specs.Counts.{counted}
 use Rattle.kinds.specs.Lists.{words}
 use Rattle.kinds.specs.WordNodes.{mixings}
-use Rattle.kinds.proofs.WordCounts.{counted-within, counted-over, counted-some, counted-none, sum-within, words-more, words-front}
+use Rattle.kinds.proofs.Limits.{counted-within, counted-over, counted-some, counted-none}
+use Rattle.kinds.proofs.WordCounts.{sum-within, words-more, words-front}
 use Rattle.kinds.proofs.multiset.count_words.Needs as need
 
 pub mix-requires : need.mix-requires

@@ -5,7 +5,8 @@ use native.Mathlib.Nat.{mul-one, mul-le-mul-left}
 use Rattle.std.proofs.shelf.Bits.{mul-le}
 use Rattle.kinds.specs.Counts.{counted}
 use Rattle.kinds.specs.WordNodes.{mixings}
-use Rattle.kinds.proofs.WordCounts.{counted-within, counted-over, counted-some, counted-none, counted-converted, mixings-none, mixings-next, mixings-grow}
+use Rattle.kinds.proofs.Limits.{counted-within, counted-over, counted-some, counted-none, counted-converted}
+use Rattle.kinds.proofs.WordCounts.{mixings-none, mixings-next, mixings-grow}
 use Rattle.kinds.proofs.multiset.mix.Needs as need
 
 pub loop-done-holds : need.loop-done-holds
