@@ -7,7 +7,7 @@ the literature (mixed-radix Gray codes, the revolving door), and from printed ta
 import itertools, math, random
 from sympy.combinatorics import Permutation
 
-random.seed(7)
+random = random.Random(7)
 NAMES = 'kind,n,t,list~'
 lines, plans, rows, faults = [], 0, 0, 0
 
