@@ -22,10 +22,10 @@ use Rattle.walk.specs.Answers.{seeks, after-seek, reads, after-read, finds}
 use Rattle.walk.specs.declared.answers.Refusal.{Refusal}
 use Rattle.walk.specs.declared.answers.Refusal.the-variants.{NoSuchLabel, NoSuchRow}
 use Rattle.layers.specs.Steps.{steps, after-step}
-use Rattle.layers.specs.Join.{mirrored, joined-label, join-size, join-of, joined, join-made, unless-refused}
+use Rattle.layers.specs.Join.{mirrored, joined-label, join-size, join-of, join-place, joined, join-made, unless-refused}
 use Rattle.layers.specs.declared.fault.JoinFault.{JoinFault}
 use Rattle.walk.proofs.Cases.{seek-in, read-row, first-place, found, lost, finds-label, finds-none}
-use Rattle.layers.proofs.JoinLaws.{Fits, fits-cases, join-place, turns-over, join-of-size, join-of-row, join-lawful}
+use Rattle.layers.proofs.JoinLaws.{Fits, fits-cases, turns-over, join-of-size, join-of-row, join-lawful}
 use Rattle.layers.proofs.Joined.{pair-at, label-below, factors-some}
 use Rattle.layers.proofs.Stepping.{Steps-to, At-end, way, step-in, step-out, step-accepted, odd-step, right-steps, right-ends, turned-ends, left-steps, join-ends}
 
@@ -93,10 +93,11 @@ module _ (swing : Bool) (a b : Meaning) where
       ap (λ r. unless-refused r (join-of swing a b)) (sym told) ∙ ap Ok (sym (ap₂ (joined swing) (first-place a lawful-a) (first-place b lawful-b) ∙ stands))
 
   module _ (lawful-a : Lawful a) (lawful-b : Lawful b) (rows : Some-rows swing a b) where
-    -- both walks stand at a label
+    -- the left walk stands at a label
     pub left-inside : a .place < size a
     left-inside = lawful-a .inside .0 (rows .some-left)
 
+    -- and so does the right one
     pub right-inside : b .place < size b
     right-inside = lawful-b .inside .0 (rows .some-right)
 

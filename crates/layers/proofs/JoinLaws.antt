@@ -17,7 +17,7 @@ use Rattle.walk.specs.Making.{new-walk}
 use Rattle.walk.specs.Meaning.{Meaning, Lawful, size, row, standing}
 use Rattle.walk.specs.declared.making.MakingFault.the-variants.{TooManyRows}
 use Rattle.walk.proofs.Differences.{differences-behind, differences-same, differences-comm}
-use Rattle.layers.specs.Join.{joined-rows, joined-label, join-size, join-of, joined, mirrored}
+use Rattle.layers.specs.Join.{joined-rows, mirrored, joined-label, join-size, join-of, join-place, joined}
 use Rattle.layers.specs.declared.fault.JoinFault.{JoinFault}
 use Rattle.layers.specs.declared.fault.JoinFault.the-variants.{Making, TooWide}
 use Rattle.layers.proofs.Joined.{length-joined, joined-at, label-below, Pair, pair-at, parts-same}
@@ -38,9 +38,9 @@ fits-cases a b = ⊎-elim narrow (λ wide. inr (TooWide, cond-false _ _ _ wide))
         ⊎-elim (λ few. inl (record { wide = leb-true (a .width + b .width) 64 n; few = leb-true (size a * size b) 4294967295 few; told = cond-true _ _ _ n ∙ cond-true _ _ _ few }))
         (λ many. inr (Making TooManyRows, cond-true _ _ _ n ∙ cond-false _ _ _ many)) (cases-bool (leb (size a * size b) 4294967295))
 
--- the place of a join of two walks that fit
-abbrev pub join-place : Bool → Meaning → Meaning → ℕ
-join-place swing a b = cond (eqb (size a) 0) 0 (joined-label swing (size b) (a .place) (b .place))
+-- the row at a label differs from the next one in at most two places
+abbrev Near : Meaning → ℕ → Type 0
+Near m label = differences (row m label) (row m (label + 1)) ≤ 2
 
 -- rows with one front differ where what follows does
 differences-front : (x y z : Row) → differences (x ++ y) (x ++ z) ≡ differences y z
@@ -122,8 +122,7 @@ module _ (swing : Bool) (a b : Meaning) where
         p .is ∙ ap₂ (joined-label swing (size b)) (lawful-a .apart (p .left) (q .left) (p .left-below) (q .left-below) (same .0)) (lawful-b .apart (p .right) (q .right) (p .right-below) (q .right-below) (same .1)) ∙ sym (q .is)
 
     -- in `swing` neighbours differ in one half only, as they do there
-    swing-steps : swing ≡ true → a .steady ≡ true → b .steady ≡ true → (label : ℕ) → label + 1 < size (join-of swing a b) →
-        differences (row (join-of swing a b) label) (row (join-of swing a b) (label + 1)) ≤ 2
+    swing-steps : swing ≡ true → a .steady ≡ true → b .steady ≡ true → (label : ℕ) → label + 1 < size (join-of swing a b) → Near (join-of swing a b) label
     swing-steps swings steady-a steady-b label lt =
         let p = join-of-pair label (omega arith) in
         ⊎-elim (within p) (across p) (step-cases (way (swing && odd (p .left)) false) (size b) (p .right) (p .right-below))
@@ -132,14 +131,14 @@ module _ (swing : Bool) (a b : Meaning) where
             row (join-of swing a b) (label + 1) ≡ row a h ++ row b k
         next p h k hh hk to = join-of-row (label + 1) (record { left = h; right = k; left-below = hh; right-below = hk; is = ap (λ x. x + 1) (p .is) ∙ sym to })
 
-        within : (p : Pair swing (size a) (size b) label) → ((k : ℕ) × (k < size b) × Steps-to (way (swing && odd (p .left)) false) (p .right) k) → differences (row (join-of swing a b) label) (row (join-of swing a b) (label + 1)) ≤ 2
+        within : (p : Pair swing (size a) (size b) label) → ((k : ℕ) × (k < size b) × Steps-to (way (swing && odd (p .left)) false) (p .right) k) → Near (join-of swing a b) label
         within p (k, hk, to) =
             let back = swing && odd (p .left) in
             let there = next p (p .left) k (p .left-below) hk (right-steps false back (size b) (p .left * size b) (p .right) k (p .right-below) hk to) in
             rw (join-of-row label p, there, differences-front (row a (p .left)) (row b (p .right)) (row b k))
             (steady-step b lawful-b steady-b (way back false) (p .right) k (p .right-below) hk to)
 
-        turn : (p : Pair swing (size a) (size b) label) → At-end (way (swing && odd (p .left)) false) (size b) (p .right) → ((h : ℕ) × (h < size a) × Steps-to false (p .left) h) → differences (row (join-of swing a b) label) (row (join-of swing a b) (label + 1)) ≤ 2
+        turn : (p : Pair swing (size a) (size b) label) → At-end (way (swing && odd (p .left)) false) (size b) (p .right) → ((h : ℕ) × (h < size a) × Steps-to false (p .left) h) → Near (join-of swing a b) label
         turn p end (h, hh, to) =
             let back = swing && odd (p .left) in
             let turns = turns-over swing (p .left) h swings (odd-step false (p .left) h to) in
@@ -155,7 +154,7 @@ module _ (swing : Bool) (a b : Meaning) where
             let ends = join-ends false (size a) (size b) (p .left) (mirrored back (size b) (p .right)) (p .left-below) (omega arith) last (right-ends false back (size b) (p .right) (p .right-below) end) in
             omega (arith, join-of-size, p .is)
 
-        across : (p : Pair swing (size a) (size b) label) → At-end (way (swing && odd (p .left)) false) (size b) (p .right) → differences (row (join-of swing a b) label) (row (join-of swing a b) (label + 1)) ≤ 2
+        across : (p : Pair swing (size a) (size b) label) → At-end (way (swing && odd (p .left)) false) (size b) (p .right) → Near (join-of swing a b) label
         across p end = ⊎-elim (turn p end) (λ last. absurd (past p end last)) (step-cases false (size a) (p .left) (p .left-below))
 
     -- where the place is a label, a join of two walks that fit is a walk

@@ -47,13 +47,15 @@ module _ (m : Meaning) (from n p : ℕ) (fits : from + n ≤ size m) where
           rw (piece-row i (omega arith), piece-row (i + 1) lt, e) (lawful .steps told (from + i) (omega arith))
 
 module _ (m : Meaning) (lawful : Lawful m) (behind ahead : ℕ) where
-  -- the rows behind the place are rows below, and so are those from it on; with none of these there are none behind
+  -- the rows behind the place are rows below
   pub cut-behind-most : cut-behind behind ahead m ≤ m .place
   cut-behind-most = cond-both (eqb (cut-ahead ahead m) 0) 0 (min behind (m .place)) (λ b. b ≤ m .place) (λ e. omega arith) (λ e. omega arith)
 
+  -- and so are those from it on
   pub cut-ahead-most : m .place + cut-ahead ahead m ≤ size m
   cut-ahead-most = omega (arith, place-most m lawful)
 
+  -- with no rows from the place on there are none behind it
   pub cut-behind-none : cut-ahead ahead m ≡ 0 → cut-behind behind ahead m ≡ 0
   cut-behind-none e = cond-true _ _ _ (eq-eqb (cut-ahead ahead m) 0 e)
 
@@ -61,9 +63,11 @@ module _ (m : Meaning) (lawful : Lawful m) (behind ahead : ℕ) where
   pub cut-fits : cut-start behind ahead m + cut-size behind ahead m ≤ size m
   cut-fits = omega (arith, cut-behind-most, cut-ahead-most)
 
+  -- a part has the rows behind the place and those from it on
   pub part-size : size (cut behind ahead m) ≡ cut-size behind ahead m
   part-size = piece-size m (cut-start behind ahead m) (cut-size behind ahead m) (cut-behind behind ahead m) cut-fits
 
+  -- its labels count from its first row
   pub part-row : (i : ℕ) → i < cut-size behind ahead m → row (cut behind ahead m) i ≡ row m (cut-start behind ahead m + i)
   part-row = piece-row m (cut-start behind ahead m) (cut-size behind ahead m) (cut-behind behind ahead m) cut-fits
 

@@ -9,10 +9,10 @@ use native.Mathlib.Numerals.{add-one}
 use Rattle.std.specs.Results.{isOk}
 use Rattle.std.specs.declared.result.Result.the-variants.{Ok, Err}
 use Rattle.std.proofs.shelf.Tests.{cases-lt, both-ways}
-use Rattle.std.proofs.shelf.Ways.{tells}
 use Rattle.walk.specs.Rows.{odd}
 use Rattle.walk.specs.Meaning.{Meaning, Lawful, size, standing}
 use Rattle.walk.specs.declared.answers.Refusal.the-variants.{NoSuchLabel}
+use Rattle.walk.proofs.Parity.{odd-suc}
 use Rattle.layers.specs.Steps.{steps, after-step}
 use Rattle.layers.specs.Join.{mirrored}
 use Rattle.walk.proofs.Cases.{seek-in, seek-out, back-in, back-out}
@@ -63,10 +63,7 @@ pub step-none : (down : Bool) (m : Meaning) → Lawful m → size m ≡ 0 → (s
 step-none true m lawful none = step-out true m (lawful .inside .1 none)
 step-none false m lawful none = step-out false m (omega arith)
 
--- odd and even alternate
-pub odd-suc : (v : ℕ) → odd (suc v) ≡ not (odd v)
-odd-suc v = grind (arith, tells)
-
+-- odd and even alternate from step to step
 pub odd-step : (down : Bool) (p q : ℕ) → Steps-to down p q → odd q ≡ not (odd p)
 odd-step true p q to = sym (ap not (ap odd (to ∙ add-one q) ∙ odd-suc q) ∙ twice (odd q))
   where

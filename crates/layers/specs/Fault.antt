@@ -6,6 +6,7 @@ use Rattle.walk.specs.Making.{making-number}
 use Rattle.layers.specs.declared.fault.JoinFault.{JoinFault}
 use Rattle.layers.specs.declared.fault.JoinFault.the-variants.{Making, TooWide}
 
+-- The number by which a fault is told.
 abbrev pub join-number : JoinFault → Option ℕ
 join-number (Making fault) = making-number fault
 join-number TooWide = Some 3

@@ -28,6 +28,7 @@ abbrev pub joined-from : Bool → ℕ → List Row → List Row → List Row
 joined-from swing i [] rs = []
 joined-from swing i (l ∷ ls) rs = map (λ r. l ++ r) (turned (swing && odd i) rs) ++ joined-from swing (suc i) ls rs
 
+-- each left row followed by the right rows
 abbrev pub joined-rows : Bool → List Row → List Row → List Row
 joined-rows swing ls rs = joined-from swing 0 ls rs
 
@@ -47,15 +48,20 @@ join-size a b = cond (leb (a .width + b .width) 64) (cond (leb (size a * size b)
 abbrev pub join-of : Bool → Meaning → Meaning → Meaning
 join-of swing a b = new-walk (joined-rows swing (a .rows) (b .rows)) (a .width + b .width) (swing && (a .steady && b .steady))
 
--- The join of two walks stands where they stand, or at 0 where it has no rows. Where they do not fit there are no rows.
+-- A join stands where its walks stand, or at 0 where there are no left rows.
+abbrev pub join-place : Bool → Meaning → Meaning → ℕ
+join-place swing a b = cond (eqb (size a) 0) 0 (joined-label swing (size b) (a .place) (b .place))
+
+-- Where two walks do not fit, their join has no rows.
 abbrev pub joined : Bool → Meaning → Meaning → Meaning
-joined swing a b = cond (isOk (join-size a b)) (standing (join-of swing a b) (cond (eqb (size a) 0) 0 (joined-label swing (size b) (a .place) (b .place)))) (new-walk [] 0 false)
+joined swing a b = cond (isOk (join-size a b)) (standing (join-of swing a b) (join-place swing a b)) (new-walk [] 0 false)
 
 -- what is given where nothing is refused
 abbrev pub unless-refused : Result ℕ JoinFault → Meaning → Result Meaning JoinFault
 unless-refused (Ok n) m = Ok m
 unless-refused (Err fault) m = Err fault
 
+-- what making a join gives
 abbrev pub join-made : Bool → Meaning → Meaning → Result Meaning JoinFault
 join-made swing a b = unless-refused (join-size a b) (join-of swing a b)
 

@@ -28,6 +28,7 @@ cut-behind behind ahead m = cond (eqb (cut-ahead ahead m) 0) 0 (min behind (m .p
 abbrev pub cut-start : ℕ → ℕ → Meaning → ℕ
 cut-start behind ahead m = m .place - cut-behind behind ahead m
 
+-- the number of its rows
 abbrev pub cut-size : ℕ → ℕ → Meaning → ℕ
 cut-size behind ahead m = cut-behind behind ahead m + cut-ahead ahead m
 

@@ -10,5 +10,6 @@ use Rattle.walk.specs.declared.answers.Refusal.{Refusal}
 abbrev pub steps : Bool → Meaning → Result (Unit {0}) Refusal
 steps down m = cond down (backs m) (seeks m (m .place + 1))
 
+-- what the step leaves
 abbrev pub after-step : Bool → Meaning → Meaning
 after-step down m = cond down (after-back m) (after-seek m (m .place + 1))
