@@ -55,9 +55,9 @@ pub impl Walk for Ladder as LadderWalk {
     }
 
     fn find(&self, row: &[u8]) -> Result<u32, Refusal> {
-        match row {
-            [value] if *value < self.rungs => Ok(u32::from(*value)),
-            _ => Err(Refusal::NoSuchRow),
+        if row.len() != 1 || row[0] >= self.rungs {
+            return Err(Refusal::NoSuchRow);
         }
+        Ok(u32::from(row[0]))
     }
 }
