@@ -22,7 +22,7 @@ use Rattle.walk.proofs.Differences.{label-of-missing}
 use Rattle.kinds.specs.Lists.{led-by, turned, odd, sweep, woven, changes, factorial}
 use Rattle.kinds.specs.Laws.{Listed, occurrences, Permutation, Apart, Changes-laws}
 use Rattle.kinds.proofs.Branches.{apart-one, length-turned, row-turned}
-use Rattle.kinds.proofs.Gray.{odd-suc}
+use Rattle.walk.proofs.Parity.{odd-suc}
 use Rattle.kinds.proofs.Just.{Just, just-row, just-empty}
 use Rattle.kinds.proofs.Occurrences.{counts-as, counts-other, occurrences-put, occurrences-take, occurs, found, parted}
 use Rattle.kinds.proofs.Swaps.{Swap, swap-sym, swap-behind, swap-before, swap-inserted, swap-steps, swap-exchange}

@@ -7,6 +7,7 @@ use native.Mathlib.Omega.{arith}
 use lib.ListN.{length}
 use Rattle.std.proofs.shelf.Ways.{tells}
 use Rattle.walk.specs.Rows.{Row, row-at}
+use Rattle.walk.proofs.Parity.{odd-suc}
 use Rattle.kinds.specs.Lists.{turned, odd, product, gray}
 use Rattle.kinds.specs.Laws.{Under, Apart, Stepping, Gray-laws}
 use Rattle.kinds.proofs.Branches.{before, length-uniform, apart-one, apart-branches, stepping-one, next-branch, length-turned, apart-turned, stepping-turned, turned-meets}
@@ -16,10 +17,6 @@ use Rattle.kinds.proofs.Digits.{Just-under, under-none, under-branches}
 -- the rows of the other radices behind the first value v
 abbrev pub gray-branch : List ℕ → ℕ → List Row
 gray-branch radices v = turned (odd v) (gray radices)
-
--- odd and even alternate
-pub odd-suc : (v : ℕ) → odd (suc v) ≡ not (odd v)
-odd-suc v = grind (arith, tells)
 
 -- there are as many rows as the product of the radices
 pub gray-length : (radices : List ℕ) → length (gray radices) ≡ product radices

@@ -4,16 +4,12 @@ use mathlib.Core.List.{List, [], _∷_, _++_}
 use Prim.Native.Nat.{ℕ, suc, _+_, _<_}
 use native.Mathlib.Omega.{arith}
 use lib.Chars.{codes}
-use lib.Dec.{ltb}
 use lib.ListN.{length, take, getD}
 use Rattle.std.specs.Iters.{counting}
 use Rattle.std.specs.Joined.{joined}
 use Rattle.std.specs.Written.{decimal}
 use Rattle.std.proofs.shelf.Counted.{map-counting-more}
 use Rattle.std.proofs.shelf.Lists.{append-assoc, joined-more, map-id, take-more, length-take-le}
-use Rattle.std.proofs.shelf.Tests.{cond-true, lt-ltb}
-use Rattle.walk.specs.Answers.{after-seek}
-use Rattle.walk.specs.Meaning.{Meaning, size, standing}
 use Rattle.walk.specs.Rows.{Row}
 use Rattle.listing.specs.Texts.{gap-text, row-text}
 
@@ -33,10 +29,6 @@ row-text-more before r i lt =
 -- the pieces of a line, one behind the other
 pub line-grows : (before label comma values end : List ℕ) → ((before ++ (label ++ comma)) ++ values) ++ end ≡ before ++ (label ++ (comma ++ (values ++ end)))
 line-grows before label comma values end = simp append-assoc
-
--- standing at one place after another is standing at the last
-pub stood : (m : Meaning) (label : ℕ) → label < size m → after-seek m label ≡ standing m label
-stood m label lt = cond-true (ltb label (size m)) (standing m label) m (lt-ltb label (size m) lt)
 
 -- one number more is counted
 counting-more : (n : ℕ) → counting 0 (n + 1) ≡ counting 0 n ++ (n ∷ [])

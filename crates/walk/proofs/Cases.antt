@@ -12,14 +12,14 @@ use Rattle.std.specs.Results.{isOk}
 use Rattle.std.specs.declared.option.Option.the-variants.{Some, None}
 use Rattle.std.specs.declared.result.Result.{Result}
 use Rattle.std.specs.declared.result.Result.the-variants.{Ok, Err}
-use Rattle.std.proofs.shelf.Tests.{cases-lt, lt-ltb, le-ltb, eq-eqb, ne-eqb, cases-bool, cond-true, cond-false}
+use Rattle.std.proofs.shelf.Tests.{cases-lt, lt-ltb, le-ltb, eq-eqb, ne-eqb, cases-bool, cond-true, cond-false, both-ways}
 use Rattle.walk.specs.Rows.{Row, row-at, Apart, same-row, label-of}
 use Rattle.walk.specs.Meaning.{Meaning, Lawful, size, row, standing}
 use Rattle.walk.specs.Answers.{seeks, after-seek, backs, after-back, reads, after-read, finds}
 use Rattle.walk.specs.declared.answers.Refusal.{Refusal}
 use Rattle.walk.specs.declared.answers.Refusal.the-variants.{NoSuchLabel, ShortTray, NoSuchRow}
 use Rattle.walk.proofs.Calls.{reads-ok}
-use Rattle.walk.proofs.Differences.{equal-from-same, label-of-first, label-of-missing}
+use Rattle.walk.proofs.Differences.{equal-from-same, same-itself, label-of-listed, label-of-missing}
 
 module _ (m : Meaning) where
   -- `seek` goes to a label
@@ -81,7 +81,7 @@ label-cases (x ∷ xs) r = ⊎-elim here (λ other. ⊎-elim (λ l. inl (later o
     later other l = record { label = suc (l .label); told = cond-false _ _ _ other ∙ ap (mapped suc) (l .told); below = omega (arith, l .below); is = l .is }
 
     first : same-row x r ≡ false → x ≡ r → ⊥
-    first other e = Rattle.std.proofs.shelf.Tests.both-ways (same-row x r) other (subst (λ y. same-row x y ≡ true) e (Rattle.walk.proofs.Differences.same-itself x))
+    first other e = both-ways (same-row x r) other (subst (λ y. same-row x y ≡ true) e (same-itself x))
 
     never : same-row x r ≡ false → Unlisted xs r → Unlisted (x ∷ xs) r
     never other l = record { told = cond-false _ _ _ other ∙ ap (mapped suc) (l .told); nowhere = λ i. nowhere-from i }
@@ -116,7 +116,7 @@ module _ (m : Meaning) (r : Row) where
   -- `find` answers the label at which the row stands
   pub finds-label : Apart (m .rows) → (label : ℕ) → label < size m → row m label ≡ r → finds m r ≡ Ok label
   finds-label apart label lt e =
-      ap (λ o. okOr o NoSuchRow) (label-of-first (m .rows) r label lt e (λ j below at. let same = apart j label (omega arith) lt (at ∙ sym e) in omega arith))
+      ap (λ o. okOr o NoSuchRow) (label-of-listed (m .rows) r label apart lt e)
 
   -- `find` refuses a row that stands nowhere
   pub finds-none : ((i : ℕ) → i < size m → row m i ≡ r → ⊥) → finds m r ≡ Err NoSuchRow

@@ -11,16 +11,17 @@ use Rattle.std.specs.Results.{isOk}
 use Rattle.std.specs.Written.{decimal}
 use Rattle.walk.specs.Meaning.{size, row, standing, Lawful}
 use Rattle.walk.specs.Answers.{after-read}
+use Rattle.walk.proofs.Cases.{seek-in}
 use Rattle.walk.proofs.Calls.{tray-begins}
 use Rattle.listing.specs.Texts.{row-text}
-use Rattle.listing.proofs.Lines.{line-grows, stood}
+use Rattle.listing.proofs.Lines.{line-grows}
 use Rattle.listing.proofs.push_line.Needs as need
 
 pub returns : need.returns
 returns g c =
     let m = g .W·Walk .meaning (c .args .walk .now) in
     let label = c .args .label in
-    let at : g .W·Walk .meaning (c .seek .last .self) ≡ standing m label = c .seek .ensures .after ∙ stood m label (c .pre) in
+    let at : g .W·Walk .meaning (c .seek .last .self) ≡ standing m label = c .seek .ensures .after ∙ seek-in m label (c .pre) .1 in
     let lawful = subst Lawful at (g .W·Walk·met .lawful (c .seek .last .self)) in
     let narrow = lawful .narrow in
     let width : c .width-width .result - 0 ≡ m .width = omega (arith, c .width-width .ensures) in
