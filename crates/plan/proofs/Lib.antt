@@ -1,5 +1,6 @@
-pub mod Carries
 pub mod Cuts
 pub mod Decimals
+pub mod Ends
 pub mod Gathers
+pub mod Made
 pub mod Words

@@ -2,8 +2,13 @@
 ghost use mathlib.Core.Path.{_≡_};
 ghost use Rattle.walk.specs.declared.making.MakingFault.the-variants.{NoMemory};
 ghost use Rattle.plan.specs.Faults.{cause-number, cause-layer};
+ghost use Rattle.plan.specs.Format.{fault as lined};
 ghost use Rattle.plan.specs.declared.fault.PartFault.the-variants.{Making};
-ghost use Rattle.plan.specs.declared.fault.Cause.the-variants.{Part as PartCause};
+ghost use Rattle.plan.specs.declared.fault.Cause.the-variants.{Part as PartCause, Join as JoinCause};
+use layers::fault::JoinFault;
+use layers::fault::JoinFaultDebug;
+use layers::fault::JoinFaultEq;
+use layers::fault::JoinFaultPartialEq;
 use std::alloc::Refused;
 use walk::making::MakingFault;
 use walk::making::MakingFaultDebug;
@@ -27,6 +32,8 @@ pub enum Cause {
     // 13: the first line is not the names line
     Names,
     Part(PartFault),
+    // the parts stand, and could not be joined
+    Join(JoinFault),
 }
 
 // What is wrong with a text, and the line on which it stands: 0 for the whole text, lines count from 1.
@@ -36,11 +43,12 @@ pub struct PlanFault {
     pub line: u8,
 }
 
-// What found the fault: the reader of the text, or the maker of a part.
+// What found the fault: the reader of the text, the maker of a part, or the maker of a join.
 #[derive(Clone, Copy, PartialEq, Eq, Debug)]
 pub enum Layer {
     Text,
     Part,
+    Join,
 }
 
 impl PlanFault {
@@ -53,6 +61,7 @@ impl PlanFault {
             Cause::Names => Some(13),
             Cause::Part(PartFault::Form) => Some(14),
             Cause::Part(PartFault::Making(fault)) => fault.number(),
+            Cause::Join(fault) => fault.number(),
         }
     }
 
@@ -61,6 +70,7 @@ impl PlanFault {
     {
         match self.cause {
             Cause::Part(PartFault::Making(_)) => Layer::Part,
+            Cause::Join(_) => Layer::Join,
             _ => Layer::Text,
         }
     }
@@ -74,18 +84,41 @@ pub impl From<MakingFault> for PartFault as PartFaultFromMaking {
     }
 }
 
-pub impl<T: Drop> From<Refused<T>> for PartFault as PartFaultFromRefused {
-    ghost converts = { λ _ r. r ≡ Making NoMemory };
-
-    fn from(_e: Refused<T>) -> PartFault {
-        PartFault::Making(MakingFault::NoMemory)
-    }
-}
-
 pub impl From<PartFault> for Cause as CauseFromPart {
     ghost converts = { λ fault r. r ≡ PartCause fault };
 
     fn from(fault: PartFault) -> Cause {
         Cause::Part(fault)
+    }
+}
+
+pub impl From<JoinFault> for Cause as CauseFromJoin {
+    ghost converts = { λ fault r. r ≡ JoinCause fault };
+
+    fn from(fault: JoinFault) -> Cause {
+        Cause::Join(fault)
+    }
+}
+
+// A fault of making that no line of the text has brought about.
+pub impl From<MakingFault> for PlanFault as PlanFaultFromMaking {
+    ghost converts = { λ fault r. r ≡ lined (PartCause (Making fault)) 0 };
+
+    fn from(fault: MakingFault) -> PlanFault {
+        PlanFault {
+            cause: Cause::Part(PartFault::Making(fault)),
+            line: 0,
+        }
+    }
+}
+
+pub impl<T: Drop> From<Refused<T>> for PlanFault as PlanFaultFromRefused {
+    ghost converts = { λ _ r. r ≡ lined (PartCause (Making NoMemory)) 0 };
+
+    fn from(_e: Refused<T>) -> PlanFault {
+        PlanFault {
+            cause: Cause::Part(PartFault::Making(MakingFault::NoMemory)),
+            line: 0,
+        }
     }
 }

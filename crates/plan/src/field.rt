@@ -2,13 +2,11 @@
 ghost use mathlib.Core.Path.{_≡_};
 ghost use Rattle.std.specs.Options.{mapped};
 ghost use Rattle.std.specs.Slices.{found};
-ghost use Rattle.plan.specs.declared.fault.Cause.the-variants.{Part as PartCause};
+ghost use Rattle.plan.specs.Coming.{coming};
 ghost use Rattle.plan.specs.Pieces.{pieces};
-ghost use Rattle.plan.specs.Format.{lines-of-text, four-fields, fault as lined};
+ghost use Rattle.plan.specs.Format.{lines-of-text, one-to-three, four-fields, fault as lined};
 ghost use Rattle.plan.specs.Reading.{lines-read, fields-read, On-line};
 use crate::fault::Cause;
-use crate::fault::CauseFromPart;
-use crate::fault::PartFault;
 use crate::fault::PlanFault;
 use crate::pieces::Pieces;
 use crate::pieces::PiecesIterator;
@@ -20,11 +18,11 @@ pub struct Field<'a> {
     pub bytes: &'a [u8],
 }
 
-// The lines of a text.
+// The lines of a text: the names line, and those of the parts.
 #[derive(Clone, Copy)]
 pub struct Lines<'a> {
     pub names: Field<'a>,
-    pub part: Field<'a>,
+    pub parts: Pieces<'a>,
 }
 
 // The fields of a line.
@@ -39,29 +37,40 @@ pub struct Fields<'a> {
 // The longest text that is read, in bytes.
 pub const LONGEST: usize = 4096;
 
+// Whether one to three pieces are still to come.
+fn one_to_three(mut parts: Pieces<'_>) -> bool
+    ensures { λ r. ⌜ r ≡ one-to-three (coming (parts .entry)) ⌝ }
+{
+    if parts.next().is_none() {
+        return false;
+    }
+    let _ = parts.next();
+    let _ = parts.next();
+    parts.next().is_none()
+}
+
 impl<'a> Lines<'a> {
-    // Two lines, each ended by a line feed: after the second nothing stands.
+    // Two to four lines, each ended by a line feed.
     pub fn of(text: &'a [u8]) -> Option<Lines<'a>>
         ensures parts { λ r. ⌜ mapped lines-read r ≡ lines-of-text (now (text .entry)) ⌝ }
-        ensures placed { λ r. ⌜ found r (λ l. (l .names .line ≡ 1) × (l .part .line ≡ 2)) ⌝ }
+        ensures placed { λ r. ⌜ found r (λ l. l .names .line ≡ 1) ⌝ }
     {
         if text.len() > LONGEST {
             return None;
         }
-        let mut pieces = Pieces::new(text, b'\n');
-        let names = Field {
-            line: 1,
-            bytes: pieces.next()?,
-        };
-        let part = Field {
-            line: 2,
-            bytes: pieces.next()?,
-        };
-        let after = pieces.next()?;
-        if !after.is_empty() || pieces.next().is_some() {
+        let (last, body) = text.split_last()?;
+        if *last != b'\n' {
             return None;
         }
-        Some(Lines { names, part })
+        let mut parts = Pieces::new(body, b'\n');
+        let names = Field {
+            line: 1,
+            bytes: parts.next()?,
+        };
+        if !one_to_three(parts) {
+            return None;
+        }
+        Some(Lines { names, parts })
     }
 }
 
@@ -95,12 +104,12 @@ impl<'a> Field<'a> {
         Some(Fields { kind, n, t, list })
     }
 
-    // The fault of a part, with this line.
-    pub fn fault(self, fault: PartFault) -> PlanFault
-        ensures { λ r. ⌜ r ≡ lined (PartCause fault) (self .entry .line) ⌝ }
+    // The fault with this line.
+    pub fn fault(self, cause: Cause) -> PlanFault
+        ensures { λ r. ⌜ r ≡ lined cause (self .entry .line) ⌝ }
     {
         PlanFault {
-            cause: Cause::from(fault),
+            cause,
             line: self.line,
         }
     }

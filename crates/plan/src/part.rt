@@ -1,58 +1,75 @@
 // What a part asks for.
 ghost use mathlib.Core.Path.{_≡_};
-ghost use Rattle.std.specs.Options.{okOr};
-ghost use Rattle.plan.specs.declared.fault.PartFault.the-variants.{Form};
-ghost use Rattle.plan.specs.Format.{kind-named, part-of-line};
-ghost use Rattle.plan.specs.Reading.{part-asked, no-memory, Gives};
+ghost use mathlib.Core.Bool.{_&&_, not};
+ghost use lib.Dec.{eqb};
+ghost use Rattle.std.specs.Options.{mapped};
+ghost use Rattle.kinds.specs.Kinds.{kind-meaning};
+ghost use Rattle.plan.specs.Coming.{coming};
+ghost use Rattle.plan.specs.Format.{t-value, entries, head-of-line, head-made};
+ghost use Rattle.plan.specs.Reading.{head-read, Makes-part};
 use crate::fault::PartFault;
+use crate::fault::PartFaultFromMaking;
 use crate::field::Field;
-use crate::list::entries;
+use crate::name::KindName;
 use crate::number::number;
+use crate::pieces::Pieces;
+use kinds::kind::Kind;
 use std::alloc::Global;
 
-#[derive(Clone, Copy, PartialEq, Eq, Debug)]
-pub enum KindName {
-    Digits,
-    Gray,
-}
-
-#[derive(Drop)]
-pub struct Asked {
+// A part whose list is still to be read.
+#[derive(Clone, Copy)]
+pub struct Head<'a> {
     pub kind: KindName,
     pub n: u16,
-    pub list: Vec<u16>,
+    pub t: u16,
+    pub entries: Pieces<'a>,
 }
 
-fn kind_name(word: &[u8]) -> Option<KindName>
-    ensures { λ r. ⌜ r ≡ kind-named (now (word .entry)) ⌝ }
+fn t_number(taken: bool, t: &[u8]) -> Option<u16>
+    ensures { λ r. ⌜ r ≡ t-value taken (now (t .entry)) ⌝ }
 {
-    if word == b"digits" {
-        Some(KindName::Digits)
-    } else if word == b"gray" {
-        Some(KindName::Gray)
+    if taken {
+        number(t)
+    } else if t == b"-" {
+        Some(0)
     } else {
         None
     }
 }
 
-impl Asked {
+fn list_entries(taken: bool, list: &[u8]) -> Option<Pieces<'_>>
+    ensures { λ r. ⌜ mapped coming r ≡ entries taken (now (list .entry)) ⌝ }
+{
+    if taken {
+        Some(Pieces::new(list, b' '))
+    } else if list == b"-" {
+        Some(Pieces::none())
+    } else {
+        None
+    }
+}
+
+impl<'a> Head<'a> {
     // What the line of a part asks for.
-    pub fn of(heap: Global, line: Field<'_>) -> Result<Asked, PartFault>
-        ensures { λ r. ⌜ Gives part-asked no-memory r (okOr (part-of-line (line .entry .bytes .now)) Form) ⌝ }
+    pub fn of(line: Field<'a>) -> Option<Head<'a>>
+        ensures { λ r. ⌜ mapped head-read r ≡ head-of-line (line .entry .bytes .now) ⌝ }
     {
-        let Some(fields) = line.fields() else {
-            return Err(PartFault::Form);
-        };
-        let Some(kind) = kind_name(fields.kind.bytes) else {
-            return Err(PartFault::Form);
-        };
-        let Some(n) = number(fields.n.bytes) else {
-            return Err(PartFault::Form);
-        };
-        if fields.t.bytes != b"-" {
-            return Err(PartFault::Form);
-        }
-        let list = entries(heap, n, fields.list.bytes)?;
-        Ok(Asked { kind, n, list })
+        let fields = line.fields()?;
+        let kind = KindName::of(fields.kind.bytes)?;
+        let n = number(fields.n.bytes)?;
+        let t = t_number(kind.takes_t(), fields.t.bytes)?;
+        let entries = list_entries(kind.takes_list() && n != 0, fields.list.bytes)?;
+        Some(Head {
+            kind,
+            n,
+            t,
+            entries,
+        })
+    }
+    // Makes the kind with its list as read.
+    pub fn make(self, heap: Global, list: &[u16]) -> Result<Kind, PartFault>
+        ensures { λ r. ⌜ Makes-part kind-meaning r (head-made (head-read (self .entry)) (now (list .entry))) ⌝ }
+    {
+        Ok(self.kind.make(heap, self.n, self.t, list)?)
     }
 }

@@ -7,7 +7,7 @@ ghost use Rattle.plan.specs.Pieces.{pieces};
 ghost use Rattle.plan.specs.Coming.{coming};
 
 // The pieces that are still to come, in order; none after the last.
-#[derive(Drop)]
+#[derive(Clone, Copy)]
 pub struct Pieces<'a> {
     at: u8,
     rest: Option<&'a [u8]>,
@@ -22,6 +22,13 @@ impl<'a> Pieces<'a> {
             at,
             rest: Some(bytes),
         }
+    }
+
+    // No pieces.
+    pub fn none() -> Pieces<'a>
+        ensures { λ r. ⌜ coming r ≡ [] ⌝ }
+    {
+        Pieces { at: 0, rest: None }
     }
 }
 
