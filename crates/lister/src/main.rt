@@ -2,6 +2,7 @@
 ghost use Prim.Native.Nat.{_≤_};
 ghost use lib.ListN.{length};
 ghost use Rattle.std.specs.Vec.{made};
+use listing::report;
 use std::io;
 use std::io::Read;
 
@@ -27,5 +28,5 @@ fn main(rt: LibcRuntime) -> io::Result<()> {
     let mut buffer = [0u8; ROOM];
     let mut input = rt.stdin();
     let length = fill(&mut input, &mut buffer)?;
-    println!(rt, "{length}")
+    rt.print(report(rt.alloc(), &buffer[0..length])?)
 }

@@ -5,8 +5,16 @@ use lib.Chars.{codes}
 use Rattle.std.specs.Iters.{counting}
 use Rattle.std.specs.Joined.{joined}
 use Rattle.std.specs.Written.{decimal}
+use Rattle.std.specs.declared.option.Option.{Option}
+use Rattle.std.specs.declared.option.Option.the-variants.{Some, None}
+use Rattle.std.specs.declared.result.Result.{Result}
+use Rattle.std.specs.declared.result.Result.the-variants.{Ok, Err}
 use Rattle.walk.specs.Meaning.{Meaning, size, row}
 use Rattle.walk.specs.Rows.{Row}
+use Rattle.plan.specs.Faults.{cause-number, cause-layer}
+use Rattle.plan.specs.declared.fault.Layer.{Layer}
+use Rattle.plan.specs.declared.fault.Layer.the-variants.{Text, Part, Join}
+use Rattle.plan.specs.declared.fault.PlanFault.{PlanFault}
 
 -- the values of a row, with one blank between neighbours
 abbrev pub row-text : Row → List ℕ
@@ -30,3 +38,18 @@ listing-text m = codes "label,row\n" ++ joined (λ label. line-text label (row m
 -- a fault: the names, and one line with its number, its line and its layer
 abbrev pub fault-text : ℕ → ℕ → List ℕ → List ℕ
 fault-text number line layer = codes "number,line,layer\n" ++ (decimal number ++ (codes "," ++ (decimal line ++ (codes "," ++ (layer ++ codes "\n")))))
+
+abbrev pub layer-text : Layer → List ℕ
+layer-text Text = codes "text"
+layer-text Part = codes "part"
+layer-text Join = codes "join"
+
+-- the fault that the numbers tell; want of memory has none, and is no fault of a text
+abbrev pub told : PlanFault → Option ℕ → List ℕ
+told fault None = []
+told fault (Some number) = fault-text number (fault .line) (layer-text (cause-layer (fault .cause)))
+
+-- what the lister writes: the rows of a plan, or its fault
+abbrev pub report-text : Result Meaning PlanFault → List ℕ
+report-text (Ok m) = listing-text m
+report-text (Err fault) = told fault (cause-number (fault .cause))

@@ -6,7 +6,12 @@ ghost use lib.ListN.{length};
 ghost use Rattle.std.specs.Of.String.{string-bytes};
 ghost use Rattle.std.specs.Vec.{made};
 ghost use Rattle.walk.specs.Meaning.{size, row, standing};
-ghost use Rattle.listing.specs.Texts.{gap-text, row-text, line-text, listing-text, fault-text};
+ghost use Rattle.plan.specs.Format.{plan-of};
+ghost use Rattle.listing.specs.Texts.{gap-text, row-text, line-text, listing-text, fault-text, layer-text, report-text};
+use kinds::kind::KindWalk;
+use layers::join::JoinWalk;
+use plan::fault::Layer;
+use plan::read::read;
 use std::alloc::AllocError;
 use std::alloc::Global;
 use walk::Walk;
@@ -75,4 +80,28 @@ pub fn fault_text(heap: Global, number: u8, line: u8, layer: &str) -> Result<Str
     ensures { λ r. ⌜ made r (λ s. string-bytes s ≡ fault-text number line (now (layer .entry))) ⌝ }
 {
     format!(heap, "number,line,layer\n{number},{line},{layer}\n")
+}
+
+// The word for a layer.
+fn layer_word(layer: Layer) -> &'static str
+    ensures { λ r. ⌜ now r ≡ layer-text layer ⌝ }
+{
+    match layer {
+        Layer::Text => "text",
+        Layer::Part => "part",
+        Layer::Join => "join",
+    }
+}
+
+// What the lister writes of a plan text: its rows, or its fault.
+pub fn report(heap: Global, text: &[u8]) -> Result<String, AllocError>
+    ensures { λ r. ⌜ made r (λ s. string-bytes s ≡ report-text (plan-of (now (text .entry)))) ⌝ }
+{
+    match read(heap, text) {
+        Ok(mut plan) => listing(heap, &mut plan),
+        Err(fault) => match fault.number() {
+            Some(number) => fault_text(heap, number, fault.line, layer_word(fault.layer())),
+            None => Err(AllocError),
+        },
+    }
 }
