@@ -1,5 +1,6 @@
 #!/usr/bin/env python3
-"""Writes crates/samples/stdin and crates/samples/stdout: plan texts with rows and faults that were not made by the library.
+"""Writes what the programs samples and lister are run on, and what they must write: plan texts with rows and faults that
+were not made by the library. And the rows beside each plan of examples/.
 
 Rows come from itertools (products, permutations, combinations), from sympy (Trotter-Johnson ranks), from rank formulas of
 the literature (mixed-radix Gray codes, the revolving door), and from printed tables. Run it in the repository's root.
@@ -183,6 +184,24 @@ fault(text('gray,1,-,2', 'gray,32,-,' + show([2] * 31 + [1]), 'gray,32,-,' + sho
 fault(text('gray,16,-,' + show([2] * 16), 'gray,16,-,' + show([2] * 16)), '2,2,join')
 fault(text('gray,16,-,' + show([2] * 16), 'gray,15,-,' + show([2] * 15), 'gray,1,-,2'), '2,2,join')
 fault(text('gray,32,-,' + show([1] * 32), 'gray,32,-,' + show([1] * 32), 'gray,1,-,2'), '3,2,join')
+# -- whole reports, and the lister -----------------------------------------------------------------------------------------
+def listed(rows): return 'label,row\n' + ''.join(f'{i},{show(r)}\n' for i, r in enumerate(rows[:1000]))
+def report(parts, rows): walk(parts, ['report:' + listed(rows).replace('\n', '~')])
+report(['gray,2,-,3 2'], gray([3, 2]))
+report(['choose,3,5,-'], choose(3, 5))
+report(['digits,0,-,-'], digits([]))
+report(['digits,4,-,7 6 5 5'], digits([7, 6, 5, 5]))
+examples = {
+    'bracket': (['gray,2,-,3 2', 'door,4,2,-', 'changes,3,-,-'], swing(gray([3, 2]), swing(door(4, 2), changes(3)))),
+    'gray': (['gray,2,-,3 2'], gray([3, 2])),
+    'filaments': (['stock,3,4,2 2 4', 'words,3,-,2 1 1'], odometer(stock([2, 2, 4], 4), words([2, 1, 1]))),
+}
+for name, (parts, rows_of) in examples.items():
+    open(f'examples/{name}.plan', 'w').write(text(*parts).replace('~', '\n'))
+    open(f'examples/{name}.rows', 'w').write(listed(rows_of))
+open('crates/lister/stdin', 'w').write(text(*examples['bracket'][0]).replace('~', '\n'))
+open('crates/lister/stdout', 'w').write(listed(examples['bracket'][1]))
+
 assert all(len(l.split('|')[0]) <= 4097 for l in lines)
 open('crates/samples/stdin', 'w', encoding='latin-1').write('\n'.join(lines) + '\n')
 open('crates/samples/stdout', 'w').write(f'{plans} plans with {rows} claims, {faults} faults\n')

@@ -5,6 +5,7 @@
 //   steady:yes   it is steady, or not: steady:no
 //   L:V V V      the row at the label L is V V V, and the label of V V V is L
 //   none:V V V   no row is V V V
+//   report:TEXT  the lister writes just TEXT, with `~` for the byte 10
 mod check;
 mod tally;
 mod text;

@@ -30,6 +30,13 @@ fn fault_is(report: &[u8], fault: &[u8]) -> bool {
     names && lines.next() == Some(fault)
 }
 
+// Whether the lister writes just what is expected of the text.
+fn report_is(heap: Global, text: &[u8], expected: &[u8]) -> Result<bool, AllocError> {
+    let told = report(heap, text)?;
+    let expected = unescaped(heap, expected)?;
+    Ok(told.as_bytes() == expected.as_slice())
+}
+
 // Whether all that the line claims of its text holds.
 pub fn run(heap: Global, line: &[u8], tally: &mut Tally) -> Result<bool, AllocError> {
     let mut claims = Pieces::new(line, b'|');
@@ -38,7 +45,11 @@ pub fn run(heap: Global, line: &[u8], tally: &mut Tally) -> Result<bool, AllocEr
         Ok(mut walk) => {
             tally.plans = tally.plans.saturating_add(1);
             for claim in claims {
-                if !holds(&mut walk, claim) {
+                let good = match claim.strip_prefix(b"report:") {
+                    Some(expected) => report_is(heap, &text, expected)?,
+                    None => holds(&mut walk, claim),
+                };
+                if !good {
                     return Ok(false);
                 }
                 tally.claims = tally.claims.saturating_add(1);
