@@ -8,3 +8,4 @@ pub mod number;
 pub mod part;
 mod parts;
 pub mod pieces;
+pub mod read;
