@@ -3,4 +3,5 @@ pub mod Decimals
 pub mod Ends
 pub mod Gathers
 pub mod Made
+pub mod Plans
 pub mod Words
