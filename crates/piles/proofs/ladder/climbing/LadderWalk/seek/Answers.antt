@@ -1,4 +1,4 @@
-use mathlib.Core.Path.{sym, _∙_}
+use mathlib.Core.Path.{sym}
 use native.Mathlib.Omega.{arith}
 use Rattle.walk.proofs.Cases.{seek-in, seek-out}
 use Rattle.piles.specs.Ladder.{ladder-meaning}

@@ -1,4 +1,3 @@
-use mathlib.Core.Path.{sym, _∙_}
 use native.Mathlib.Omega.{arith}
 use Rattle.piles.proofs.Rungs.{ladder-length}
 use Rattle.piles.proofs.ladder.climbing.LadderWalk.size.Needs as need
