@@ -1,6 +1,7 @@
 // One thing that is to hold of a walk.
 ghost use Prim.Native.Nat.{_≤_};
 ghost use Rattle.std.specs.Slices.{found};
+use walk::answers::RefusalPartialEq;
 use plan::pieces::Pieces;
 use plan::pieces::PiecesIterator;
 use walk::Walk;

@@ -10,6 +10,9 @@ mod check;
 mod tally;
 mod text;
 
+use crate::tally::TallyDefault;
+use crate::tally::TallyDisplay;
+use plan::pieces::PiecesIterator;
 use std::io;
 use std::io::Read;
 use tally::Tally;

@@ -1,4 +1,6 @@
 // A plan text, and all that is to hold of it.
+use kinds::kind::KindWalk;
+use layers::join::JoinWalk;
 use super::check::holds;
 use super::tally::Tally;
 use listing::report;
