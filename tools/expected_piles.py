@@ -103,9 +103,14 @@ def swing(left, right):
 
 
 PILES = [
-    part(5, 17, reverse(odometer(ladder(2), reverse(swing(ladder(4), ladder(3)))))),
+    part(2, 9, reverse(swing(gray(3, 2), door(3, 1)))),
+    swing(reverse(changes(3)), part(1, 4, gray(2, 2))),
+    odometer(ladder(3), reverse(swing(ladder(2), choose(3, 2)))),
+    part(5, 17, reverse(odometer(changes(3), swing(door(3, 2), ladder(2))))),
+    swing(door(4, 2), swing(changes(3), gray(2))),
+    odometer(words(2, 1), stock(2, 2, 1, 1)),
     part(3, 4, reverse(ladder(255))),
-    reverse(swing(ladder(0), ladder(2))),
+    reverse(swing(ladder(0), changes(2))),
 ]
 
 
