@@ -12,6 +12,7 @@ mod text;
 
 use crate::tally::TallyDefault;
 use crate::tally::TallyDisplay;
+use plan::pieces::Pieces;
 use plan::pieces::PiecesIterator;
 use std::io;
 use std::io::Read;
@@ -23,9 +24,11 @@ fn main(rt: LibcRuntime) -> io::Result<()> {
     let mut all = Vec::new(heap);
     rt.stdin().read_to_end(&mut all)?;
     let mut tally = Tally::default();
-    for (i, line) in plan::pieces::Pieces::new(&all, b'\n').enumerate() {
+    let mut number: u32 = 0;
+    for line in Pieces::new(&all, b'\n') {
+        number = number.saturating_add(1);
         if !line.is_empty() && !run(heap, line, &mut tally)? {
-            println!(rt, "line {i}: not as expected")?;
+            println!(rt, "line {number}: not as expected")?;
         }
     }
     println!(rt, "{tally}")
