@@ -113,7 +113,7 @@ for n, t in ((32, 16), (32, 5), (32, 31), (30, 12)):
     walk([f'choose,{n},{t},-'], [f'size:{size}'] + [f'{rising_rank(r)}:{show(r)}' for r in some])
     walk([f'door,{n},{t},-'], [f'size:{size}'] + [f'{door_rank(r)}:{show(r)}' for r in some])
 walk(['changes,12,-,-'], ['size:479001600'] + [f'{k}:{show(changes_row(12, k))}' for k in labels(479001600)])
-for cs in ([4, 4, 4, 4], [2] * 8, [1] * 12, [16, 16], [0, 3, 0, 9, 1]):
+for cs in ([4, 4, 4, 4], [2] * 7, [1] * 12, [16, 16], [0, 3, 0, 9, 1]):
     total, size = sum(cs), math.factorial(sum(cs))
     for c in cs: size //= math.factorial(c)
     def multinomial(left):
@@ -176,7 +176,7 @@ for part in ('digits,33,-,' + show([1] * 33), 'digits,2,-,2', 'digits,1,-,2 2', 
              'door,33,1,-', 'door,3,33,-', 'stock,33,1,' + show([1] * 33), 'stock,1,33,1', 'stock,1,1,33', 'stock,2,1,1', 'words,33,-,' + show([0] * 33), 'words,2,-,16 17', 'words,1,-,33', 'words,2,-,1', 'words,1,-,999', 'changes,33,-,-'):
     fault(text(part), '1,2,part')
     fault(text(part, 'digits,x'), '1,2,part')
-for part in ('digits,32,-,' + show([2] * 32), 'gray,32,-,' + show([2] * 32), 'digits,5,-,255 255 255 255 2', 'gray,32,-,' + show([255] * 32), 'stock,32,32,' + show([32] * 32), 'words,32,-,' + show([1] * 32), 'words,13,-,' + show([1] * 13), 'changes,13,-,-', 'changes,32,-,-'):
+for part in ('digits,32,-,' + show([2] * 32), 'gray,32,-,' + show([2] * 32), 'digits,5,-,255 255 255 255 2', 'gray,32,-,' + show([255] * 32), 'stock,32,32,' + show([32] * 32), 'words,32,-,' + show([1] * 32), 'words,13,-,' + show([1] * 13), 'words,8,-,' + show([2] * 8), 'changes,13,-,-', 'changes,32,-,-'):
     fault(text(part), '2,2,part')
     fault(text('gray,0,-,-', part), '2,3,part')
 fault(text('gray,1,-,2', 'gray,32,-,' + show([1] * 32), 'gray,32,-,' + show([1] * 32)), '3,2,join')
