@@ -3,7 +3,6 @@ mod making;
 mod walking;
 
 pub use walking::KindWalk;
-
 ghost use mathlib.Core.Path.{_≡_};
 ghost use mathlib.Core.Bool.{true};
 ghost use Prim.Native.Nat.{_-_, _≤_};

@@ -19,7 +19,7 @@ use super::tree::write_row;
 
 impl Shape {
     // Whether the kind is steady.
-    pub fn steady(&self) -> bool
+    pub(crate) fn steady(&self) -> bool
         ensures { λ r. ⌜ r ≡ steady-of (now (self .entry)) ⌝ }
     {
         match self {
@@ -33,7 +33,7 @@ impl Shape {
     }
 
     // Writes the row at a label into a tray as wide as the shape's rows, of which there are `size`.
-    pub fn write_row(&self, size: u32, label: u32, tray: &mut [u8])
+    pub(crate) fn write_row(&self, size: u32, label: u32, tray: &mut [u8])
         requires holds { ⌜ shape-holds (now self) ≡ true ⌝ }
         requires counted { ⌜ size ≡ length (rows-of (now self)) ⌝ }
         requires listed { ⌜ label < length (rows-of (now self)) ⌝ }
@@ -51,7 +51,7 @@ impl Shape {
     }
 
     // The label of a row as wide as the shape's rows, of which there are `size`.
-    pub fn find_row(&self, size: u32, row: &[u8]) -> Option<u32>
+    pub(crate) fn find_row(&self, size: u32, row: &[u8]) -> Option<u32>
         requires holds { ⌜ shape-holds (now self) ≡ true ⌝ }
         requires counted { ⌜ size ≡ length (rows-of (now self)) ⌝ }
         requires wide { ⌜ length (now row) ≡ width-of (now self) ⌝ }

@@ -12,7 +12,7 @@ use std::alloc::AllocError;
 use std::alloc::Global;
 
 // The number of rows under the radices, or `None` where a walk may not have as many.
-pub fn count_rows(radices: &[u16]) -> Option<u32>
+pub(crate) fn count_rows(radices: &[u16]) -> Option<u32>
     requires { ⌜ all-between 1 255 (now radices) ≡ true ⌝ }
     ensures { λ r. ⌜ r ≡ counted (product (now (radices .entry))) ⌝ }
 {
@@ -24,7 +24,7 @@ pub fn count_rows(radices: &[u16]) -> Option<u32>
 }
 
 // Each radix with the number of rows under the later ones; all have `size`.
-pub fn levels_of(heap: Global, radices: &[u16], size: u32) -> Result<Vec<Level>, AllocError>
+pub(crate) fn levels_of(heap: Global, radices: &[u16], size: u32) -> Result<Vec<Level>, AllocError>
     requires fit { ⌜ all-between 1 255 (now radices) ≡ true ⌝ }
     requires counted { ⌜ size ≡ product (now radices) ⌝ }
     ensures { λ r. ⌜ made r (λ v. vec-items v ≡ levels-of (now (radices .entry))) ⌝ }

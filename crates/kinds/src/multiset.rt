@@ -10,7 +10,7 @@ use super::stretch::Stretch;
 use super::tree::Node;
 
 // How many values the counts say together.
-pub fn total(counts: &[u8]) -> u8
+pub(crate) fn total(counts: &[u8]) -> u8
     requires { ⌜ sum (now counts) ≤ 255 ⌝ }
     ensures { λ r. ⌜ r ≡ sum (now (counts .entry)) ⌝ }
 {
@@ -32,7 +32,7 @@ pub struct WordsNode {
 
 impl WordsNode {
     // The node above all words of the counts, of which there are `rows`.
-    pub fn new(counts: &[u8], rows: u32) -> WordsNode
+    pub(crate) fn new(counts: &[u8], rows: u32) -> WordsNode
         requires within { ⌜ length (now counts) ≤ 32 ⌝ }
         requires few { ⌜ sum (now counts) ≤ 255 ⌝ }
         requires known { ⌜ rows ≡ length (words (now counts)) ⌝ }
@@ -119,7 +119,7 @@ fn mix(rows: u32, some: u16, others: u16) -> Option<u32>
 }
 
 // The number of words of the counts, or `None` where a walk may not have as many.
-pub fn count_words(counts: &[u16]) -> Option<u32>
+pub(crate) fn count_words(counts: &[u16]) -> Option<u32>
     requires { ⌜ sum (now counts) ≤ 32 ⌝ }
     ensures { λ r. ⌜ r ≡ counted (length (words (now (counts .entry)))) ⌝ }
 {

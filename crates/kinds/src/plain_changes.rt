@@ -13,7 +13,7 @@ ghost use Rattle.kinds.specs.Counts.{counted};
 ghost use Rattle.kinds.specs.Lists.{changes};
 
 // The number of orders of n values, or `None` where a walk may not have as many.
-pub fn count_changes(n: u16) -> Option<u32>
+pub(crate) fn count_changes(n: u16) -> Option<u32>
     ensures { λ r. ⌜ r ≡ counted (length (changes n)) ⌝ }
 {
     let mut count: u32 = 1;
@@ -63,7 +63,7 @@ fn position_of(row: &[u8], value: u8) -> Option<usize>
 }
 
 // Writes the row at a label among the orders of as many values as the tray has room for.
-pub fn write_changes(label: u32, tray: &mut [u8])
+pub(crate) fn write_changes(label: u32, tray: &mut [u8])
     requires narrow { ⌜ length (now tray) ≤ 32 ⌝ }
     requires listed { ⌜ label < length (changes (length (now tray))) ⌝ }
     ensures { λ _. ⌜ now (tray .exit) ≡ row-at (changes (length (now (tray .entry)))) label ⌝ }
@@ -97,7 +97,7 @@ fn unwind(row: &mut [u8]) -> Option<u32>
 }
 
 // The label of a row among the orders of as many values, or `None` where it is no such order.
-pub fn find_changes(row: &[u8]) -> Option<u32>
+pub(crate) fn find_changes(row: &[u8]) -> Option<u32>
     requires { ⌜ length (now row) ≤ 12 ⌝ }
     ensures { λ r. ⌜ r ≡ label-of (changes (length (now (row .entry)))) (now (row .entry)) ⌝ }
 {

@@ -21,7 +21,7 @@ pub struct RadixNode<'a> {
 
 impl<'a> RadixNode<'a> {
     // The node above all rows of the levels.
-    pub fn new(levels: &'a [Level], reflected: bool) -> RadixNode<'a>
+    pub(crate) fn new(levels: &'a [Level], reflected: bool) -> RadixNode<'a>
         requires hold { ⌜ levels-hold (now levels) ≡ true ⌝ }
         requires few { ⌜ product (radices (now levels)) ≤ 4294967295 ⌝ }
         ensures { λ r. ⌜ (now (r .levels) ≡ now (levels .entry)) × (r .reflected ≡ reflected) ⌝ }

@@ -30,28 +30,28 @@ fn sum_within(most: u16, list: &[u16]) -> bool
 }
 
 // Whether the list has n radices, up to 32, each from 1 to 255.
-pub fn radices_fit(n: u16, list: &[u16]) -> bool
+pub(crate) fn radices_fit(n: u16, list: &[u16]) -> bool
     ensures { λ r. ⌜ r ≡ radices-fit n (now (list .entry)) ⌝ }
 {
     n <= 32 && list.len() == usize::from(n) && all_between(1, 255, list)
 }
 
 // Whether the list has n stocks, and these and the sum t are up to 32.
-pub fn stocks_fit(n: u16, t: u16, list: &[u16]) -> bool
+pub(crate) fn stocks_fit(n: u16, t: u16, list: &[u16]) -> bool
     ensures { λ r. ⌜ r ≡ stocks-fit n t (now (list .entry)) ⌝ }
 {
     n <= 32 && t <= 32 && list.len() == usize::from(n) && all_between(0, 32, list)
 }
 
 // Whether t and n are up to 32.
-pub fn choice_fits(n: u16, t: u16) -> bool
+pub(crate) fn choice_fits(n: u16, t: u16) -> bool
     ensures { λ r. ⌜ r ≡ choice-fits n t ⌝ }
 {
     t <= 32 && n <= 32
 }
 
 // Whether the list has n counts, up to 32, with a sum up to 32.
-pub fn counts_fit(n: u16, list: &[u16]) -> bool
+pub(crate) fn counts_fit(n: u16, list: &[u16]) -> bool
     ensures { λ r. ⌜ r ≡ counts-fit n (now (list .entry)) ⌝ }
 {
     n <= 32 && list.len() == usize::from(n) && sum_within(32, list)

@@ -40,7 +40,7 @@ fn rows_before(bin: &Bin, left: u8, value: u8) -> u64
 
 impl<'a> StockNode<'a> {
     // The node above all rows of the stocks with a sum.
-    pub fn new(bins: &'a [Bin], left: u8, reflected: bool) -> StockNode<'a>
+    pub(crate) fn new(bins: &'a [Bin], left: u8, reflected: bool) -> StockNode<'a>
         requires hold { ⌜ bins-hold (now bins) ≡ true ⌝ }
         requires small { ⌜ left ≤ 32 ⌝ }
         requires few { ⌜ ways (mosts (now bins)) left ≤ 4294967295 ⌝ }

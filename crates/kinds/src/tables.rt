@@ -30,7 +30,7 @@ use walk::making::MakingFaultFromAlloc;
 use walk::making::MakingFaultFromRefused;
 
 // The levels of n radices, and the number of their rows.
-pub fn radix_table(heap: Global, n: u16, list: &[u16]) -> Result<(Vec<Level>, u32), MakingFault>
+pub(crate) fn radix_table(heap: Global, n: u16, list: &[u16]) -> Result<(Vec<Level>, u32), MakingFault>
     ensures { λ r. ⌜ Tabled (radices-fit n (now (list .entry))) (product (now (list .entry))) (λ x. (vec-items (x .0) ≡ levels-of (now (list .entry))) × (x .1 ≡ product (now (list .entry)))) r ⌝ }
 {
     if !radices_fit(n, list) {
@@ -59,7 +59,7 @@ fn sums_table(heap: Global, stocks: &[u16], t: u16) -> Result<(Vec<Bin>, u32), M
 }
 
 // The bins of n stocks, and the number of their rows with the sum t.
-pub fn stock_table(
+pub(crate) fn stock_table(
     heap: Global,
     n: u16,
     t: u16,
@@ -74,7 +74,7 @@ pub fn stock_table(
 }
 
 // The bins of n stocks of 1, and the number of their rows with the sum t.
-pub fn choice_table(heap: Global, n: u16, t: u16) -> Result<(Vec<Bin>, u32), MakingFault>
+pub(crate) fn choice_table(heap: Global, n: u16, t: u16) -> Result<(Vec<Bin>, u32), MakingFault>
     ensures { λ r. ⌜ Tabled (choice-fits n t) (ways (replicate n 1) t) (λ x. (vec-items (x .0) ≡ bins-of (replicate n 1)) × (x .1 ≡ ways (replicate n 1) t)) r ⌝ }
 {
     if !choice_fits(n, t) {
@@ -97,7 +97,7 @@ fn bytes_of(heap: Global, counts: &[u16]) -> Result<Vec<u8>, AllocError>
 }
 
 // n counts, and the number of their words.
-pub fn words_table(heap: Global, n: u16, list: &[u16]) -> Result<(Vec<u8>, u32), MakingFault>
+pub(crate) fn words_table(heap: Global, n: u16, list: &[u16]) -> Result<(Vec<u8>, u32), MakingFault>
     ensures { λ r. ⌜ Tabled (counts-fit n (now (list .entry))) (length (words (now (list .entry)))) (λ x. (vec-items (x .0) ≡ now (list .entry)) × (x .1 ≡ length (words (now (list .entry))))) r ⌝ }
 {
     if !counts_fit(n, list) {

@@ -68,7 +68,7 @@ pub trait Node {
 }
 
 // Writes the row at a label of the node's rows.
-pub fn write_row<N: Node + Drop>(mut node: N, label: u32, tray: &mut [u8])
+pub(crate) fn write_row<N: Node + Drop>(mut node: N, label: u32, tray: &mut [u8])
     requires listed { ⌜ label < length (N·Node .below node) ⌝ }
     requires wide { ⌜ length (now tray) ≡ N·Node .depth node ⌝ }
     ensures { λ _. ⌜ now (tray .exit) ≡ row-at (N·Node .below node) label ⌝ }
@@ -85,7 +85,7 @@ pub fn write_row<N: Node + Drop>(mut node: N, label: u32, tray: &mut [u8])
 }
 
 // The label of a row among the node's rows, of which there are `size`.
-pub fn find_row<N: Node + Drop>(mut node: N, size: u32, row: &[u8]) -> Option<u32>
+pub(crate) fn find_row<N: Node + Drop>(mut node: N, size: u32, row: &[u8]) -> Option<u32>
     requires counted { ⌜ size ≡ length (N·Node .below node) ⌝ }
     requires wide { ⌜ length (now row) ≡ N·Node .depth node ⌝ }
     ensures { λ r. ⌜ r ≡ label-of (N·Node .below node) (now (row .entry)) ⌝ }

@@ -51,7 +51,7 @@ fn ways_of_none() -> [u64; 33]
 }
 
 // The counts of the stocks.
-pub fn ways_of(stocks: &[u16]) -> [u64; 33]
+pub(crate) fn ways_of(stocks: &[u16]) -> [u64; 33]
     requires { ⌜ all-between 0 32 (now stocks) ≡ true ⌝ }
     ensures { λ r. ⌜ r ≡ capped-ways (now (stocks .entry)) ⌝ }
 {
@@ -63,7 +63,7 @@ pub fn ways_of(stocks: &[u16]) -> [u64; 33]
 }
 
 // Each stock with the counts of the stocks behind it.
-pub fn bins_of(heap: Global, stocks: &[u16]) -> Result<Vec<Bin>, AllocError>
+pub(crate) fn bins_of(heap: Global, stocks: &[u16]) -> Result<Vec<Bin>, AllocError>
     requires { ⌜ all-between 0 32 (now stocks) ≡ true ⌝ }
     ensures { λ r. ⌜ made r (λ v. vec-items v ≡ bins-of (now (stocks .entry))) ⌝ }
 {

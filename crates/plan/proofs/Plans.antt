@@ -70,6 +70,7 @@ three-drawn f items r₁ r₂ a b c a′ b′ c′ once twice is-a at-a is-b at-
     second : (rest all : List _) → rest ≡ drop 1 all → getD (map f rest) 0 blank ≡ getD (map f all) 1 blank
     second rest [] is = ap (λ xs. getD (map f xs) 0 blank) is
     second rest (x ∷ xs) is = ap (λ ys. getD (map f ys) 0 blank) is
+
     third : (rest one all : List _) → rest ≡ drop 1 one → one ≡ drop 1 all → getD (map f rest) 0 blank ≡ getD (map f all) 2 blank
     third rest one [] is on = ap (λ xs. getD (map f xs) 0 blank) (is ∙ ap (drop 1) on)
     third rest one (x ∷ xs) is on = second rest one is ∙ ap (λ ys. getD (map f ys) 1 blank) on

@@ -1,10 +1,10 @@
 // One thing that is to hold of a walk.
 ghost use Prim.Native.Nat.{_≤_};
 ghost use Rattle.std.specs.Slices.{found};
-use walk::answers::RefusalPartialEq;
 use plan::pieces::Pieces;
 use plan::pieces::PiecesIterator;
 use walk::Walk;
+use walk::answers::RefusalPartialEq;
 
 // A number in decimal digits.
 pub fn number(digits: &[u8]) -> Option<u32> {

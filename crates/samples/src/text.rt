@@ -1,8 +1,8 @@
 // A plan text, and all that is to hold of it.
-use kinds::kind::KindWalk;
-use layers::join::JoinWalk;
 use super::check::holds;
 use super::tally::Tally;
+use kinds::kind::KindWalk;
+use layers::join::JoinWalk;
 use listing::report;
 use plan::pieces::Pieces;
 use plan::pieces::PiecesIterator;

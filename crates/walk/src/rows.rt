@@ -32,7 +32,7 @@ fn highest_difference(a: &[u8], b: &[u8]) -> usize
 }
 
 // Both ends of the change between two rows of one width.
-pub fn span(a: &[u8], b: &[u8]) -> Span
+pub(crate) fn span(a: &[u8], b: &[u8]) -> Span
     requires { ⌜ length (now a) ≡ length (now b) ⌝ }
     ensures { λ r. ⌜ r ≡ span-of (now (a .entry)) (now (b .entry)) ⌝ }
 {

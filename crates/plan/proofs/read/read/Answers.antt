@@ -37,4 +37,4 @@ returns c =
     ∙ three-drawn kind-meaning (c .into-iter-parts .result .rest .items) _ _ _ _ _ _ _ _ (one .others) (two .others) (c .in-Continue-first .ensures tt) (one .first) (c .in-Continue-second .ensures tt) (two .first) (c .in-Continue-third .ensures tt) (three .first)
     ∙ ap (λ items. all-joined (map kind-meaning items)) (c .into-iter-parts .ensures .rest)
     ∙ sym (plan-of-parts (c .args .text .now) _ (c .in-Some .ensures tt .parts) (same-from-ne _ (codes "kind,n,t,list") (c .ne .result) true (c .ne .ensures) (c .if-ne .left))
-        ∙ ap (λ made. then made all-joined) (c .in-Continue-make-parts .ensures tt)))
+    ∙ ap (λ made. then made all-joined) (c .in-Continue-make-parts .ensures tt)))
