@@ -1,4 +1,6 @@
 // The book of one trial: which printer holds which row, which rows wait, and how many are done.
+#![tactic(auto)]
+
 pub mod book;
 pub mod calls;
 pub mod counts;

@@ -1,4 +1,6 @@
 // Why a plan text was refused, and where.
+#![tactic(auto)]
+
 ghost use Rattle.std.specs.Prelude.{◌≡◌};
 ghost use Rattle.walk.specs.declared.making.MakingFault.TheVariants.{NoMemory};
 ghost use Rattle.faults.specs.Faults.{cause_number, cause_layer, lined};

@@ -1,3 +1,5 @@
 // The joins: two walks made into one.
+#![tactic(auto)]
+
 pub mod fault;
 pub mod join;

@@ -1,4 +1,6 @@
 // The kinds of walk that are made from numbers.
+#![tactic(auto)]
+
 pub mod kind;
 mod labels;
 mod levels;

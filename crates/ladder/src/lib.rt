@@ -1,4 +1,6 @@
 // A walk that is neither a kind nor a layer: the rows 0, 1, 2 and so on, of one value each.
+#![tactic(auto)]
+
 mod climbing;
 
 ghost use Rattle.std.specs.Prelude.{◌-◌, ◌≤◌};

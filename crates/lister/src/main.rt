@@ -1,4 +1,6 @@
 // Lists the rows of a plan text, or tells its fault.
+#![tactic(auto)]
+
 ghost use Rattle.std.specs.Prelude.{◌≤◌, length, IfOk};
 
 use listing::report;

@@ -1,4 +1,6 @@
 // Writes the rows of a walk as text.
+#![tactic(auto)]
+
 ghost use Rattle.std.specs.Prelude.{◌≡◌, ◌<◌, ◌≤◌, true, ◌++◌, length, is_some, IfOk, string_bytes, OnOk};
 ghost use Rattle.walk.specs.Meaning.{size, row, standing};
 ghost use Rattle.faults.specs.Faults.{cause_number};

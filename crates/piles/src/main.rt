@@ -1,4 +1,6 @@
 // Walks over walks over walks, some over a walk of somebody else's making, and what they list.
+#![tactic(auto)]
+
 mod show;
 mod trouble;
 

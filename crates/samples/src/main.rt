@@ -6,6 +6,8 @@
 //   L:V V V      the row at the label L is V V V, and the label of V V V is L
 //   none:V V V   no row is V V V
 //   report:TEXT  the lister writes just TEXT, with `~` for the byte 10
+#![tactic(auto)]
+
 mod check;
 mod sample;
 mod tally;

@@ -1,3 +1,5 @@
 // Texts cut into pieces.
+#![tactic(auto)]
+
 pub mod laws;
 pub mod pieces;

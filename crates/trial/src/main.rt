@@ -1,5 +1,7 @@
 // Runs a day's calls on the book of one trial. Standard input has a plan text, a line `open K`, and then a call on each line;
 // standard output has each call with its answer, or the fault of the plan.
+#![tactic(auto)]
+
 mod answer;
 mod call;
 mod day;

@@ -1,4 +1,6 @@
 // What a walk is: a numbered list of rows, in an order in which it can be stepped through, searched and read.
+#![tactic(auto)]
+
 pub mod answers;
 pub mod making;
 mod rows;
