@@ -11,8 +11,8 @@ loop-label-preserved g c =
     let m = meaning c.args.walk.now in
     let label = c.loop-label.label in
     let names = codes "label,row\n" in (
-      ap (λ n. standing n 0) c.push-line.ensures.after ∙ c.loop-label.invariant.0,
-      c.in-ok-push-line.ensures.text
+      ap (λ n. standing n 0) c.push_line.ensures.after ∙ c.loop-label.invariant.0,
+      c.in_ok-push_line.ensures.text
           ∙ ap (λ t. t ++ line_text label (row (meaning c.loop-label.walk) label)) c.loop-label.invariant.1
           ∙ ap (λ n. (names ++ flat_map (λ i. line_text i (row m i)) (range_with_len 0 label)) ++ line_text label (row n label)) c.loop-label.invariant.0
           ∙ lines_more names (λ i. line_text i (row m i)) label,

@@ -20,12 +20,12 @@ returns g c =
     ap₂ take width (c.read.ensures.bytes ∙ ap (λ n. after_read n (replicate 64 0)) at)
     ∙ tray_begins (standing m label) (replicate 64 0) lawful (omega (arith, c.requires)) narrow in
     let before = string_bytes c.args.out.now in
-    let begun = chosen _ _ _ _ c.push-str.ensures.bytes (ap is_ok c.in-ok-push-str.was) in
-    let label_text = c.as-str.ensures.value ∙ c.in-ok-format.ensures.ok in
-    let ended = chosen _ _ _ _ c.push-str-2.ensures.bytes (ap is_ok c.in-ok-push-str-2.was) in
+    let begun = chosen _ _ _ _ c.push_str.ensures.bytes (ap is_ok c.in_ok-push_str.was) in
+    let label_text = c.as_str.ensures.value ∙ c.in_ok-format.ensures.ok in
+    let ended = chosen _ _ _ _ c.push_str-2.ensures.bytes (ap is_ok c.in_ok-push_str-2.was) in
     record {
       after = at;
       text = ended
-          ∙ ap (λ t. t ++ codes "\n") (c.in-ok-push-row.ensures ∙ ap₂ (λ t r. t ++ row_text r) (begun ∙ ap (λ t. before ++ t) label_text) read)
+          ∙ ap (λ t. t ++ codes "\n") (c.in_ok-push_row.ensures ∙ ap₂ (λ t r. t ++ row_text r) (begun ∙ ap (λ t. before ++ t) label_text) read)
           ∙ line_grows before (decimal label) (codes ",") (row_text (row m label)) (codes "\n");
     }

@@ -10,8 +10,8 @@ loop-place-preserved c =
     let row = c.args.row.now in
     let i = c.loop-place.place in
     let before = string_bytes c.args.out.now in
-    let pushed = chosen _ _ _ _ c.push-str.ensures.bytes (ap is_ok c.in-ok-push-str.was) in
-    let written = c.as-str.ensures.value ∙ c.in-ok-format.ensures.ok in
+    let pushed = chosen _ _ _ _ c.push_str.ensures.bytes (ap is_ok c.in_ok-push_str.was) in
+    let written = c.as_str.ensures.value ∙ c.in_ok-format.ensures.ok in
     pushed
     ∙ ap₂ ◌++◌ c.loop-place.invariant (written ∙ ap (λ g. g ++ decimal (get_or row i 0)) c.gap-gap.ensures)
     ∙ append_assoc before _ _

@@ -7,7 +7,7 @@ use Rattle.plan.specs.Reading.{head_read}
 use Rattle.plan.proofs.Gathers.{also, each_more, each_done}
 use Rattle.plan.proofs.Made.{part_read, parts_more, parts_done}
 use Rattle.plan.proofs.parts.make_parts.Goals as goal
-use Rattle.plan.proofs.parts.make_parts.Goals.{else-parts-test, then-parts-test+in-default, then-parts-test+in-Some+in-default-of, then-parts-test+in-Some+in-Some-of+in-Some-piece+in-default-number, then-parts-test+in-Some+in-Some-of+in-None+in-Err}
+use Rattle.plan.proofs.parts.make_parts.Goals.{else-parts-test, then-parts-test+in_default, then-parts-test+in-Some+in_default-of, then-parts-test+in-Some+in-Some-of+in-Some-piece+in_default-number, then-parts-test+in-Some+in-Some-of+in-None+in-Err}
 
 pub loop-piece-preserved : goal.loop-piece-preserved
 loop-piece-preserved c = (
@@ -24,7 +24,7 @@ loop-piece-preserved c = (
       _
       (c.loop-piece.invariant.3 ∙ ap (λ ps. also (vec_items c.loop-piece.list) (each entry_read ps)) c.in-Some-piece.ensures.steps)
       (let is = sym c.in-Some-number.ensures in simp is)
-      c.in-ok-push.ensures.items,
+      c.in_ok-push.ensures.items,
 )
 
 pub parts-preserved : goal.parts-preserved
@@ -51,7 +51,7 @@ parts-preserved c =
           (coming c.next.new.self)
           comes
           part
-          c.in-ok-push-2.ensures.items,
+          c.in_ok-push-2.ensures.items,
     )
 
 pub returns-in-None-fault : goal.returns-in-None-fault
@@ -59,8 +59,8 @@ returns-in-None-fault c =
     let done = parts_done _ _ _ _ c.parts.invariant.2 in
     elim c.parts-test.branch [
       | else-parts-test w ↦ done (nil_from_length (coming c.parts.lines) (omega (arith, c.parts.invariant.1, w.parts-test.false)))
-      | then-parts-test+in-default w ↦ done w.in-default.ensures.steps.0
-      | then-parts-test+in-Some+in-default-of w ↦ absurd (let never : ◌≡◌ {A = ℕ} 0 1 = cc in omega arith)
-      | then-parts-test+in-Some+in-Some-of+in-Some-piece+in-default-number w ↦ absurd (let never : ◌≡◌ {A = ℕ} 0 1 = cc in omega arith)
+      | then-parts-test+in_default w ↦ done w.in_default.ensures.steps.0
+      | then-parts-test+in-Some+in_default-of w ↦ absurd (let never : ◌≡◌ {A = ℕ} 0 1 = cc in omega arith)
+      | then-parts-test+in-Some+in-Some-of+in-Some-piece+in_default-number w ↦ absurd (let never : ◌≡◌ {A = ℕ} 0 1 = cc in omega arith)
       | then-parts-test+in-Some+in-Some-of+in-None+in-Err w ↦ absurd (let never : ◌≡◌ {A = ℕ} 0 1 = cc in omega arith)
     ]

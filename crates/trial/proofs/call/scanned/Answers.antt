@@ -6,7 +6,7 @@ use Rattle.trial.proofs.call.scanned.Goals as goal
 
 pub loop-field-preserved : goal.loop-field-preserved
 loop-field-preserved c =
-    let reads : Some c.in-ok-ok-or.field-0 ≡ value_of c.in-Some.field.now = sym c.in-ok-ok-or.ensures.ok-part ∙ c.value.ensures in (
+    let reads : Some c.in_ok-ok_or.field-0 ≡ value_of c.in-Some.field.now = sym c.in_ok-ok_or.ensures.ok-part ∙ c.value.ensures in (
       tt,
       tt,
       scan_more
@@ -15,9 +15,9 @@ loop-field-preserved c =
           (coming c.loop-field.field-iterator)
           c.in-Some.field.now
           (coming c.next.new.self)
-          c.in-ok-ok-or.field-0
+          c.in_ok-ok_or.field-0
           c.loop-field.invariant.2
           c.in-Some.ensures.steps
           reads
-          c.in-ok-push.ensures.items,
+          c.in_ok-push.ensures.items,
     )

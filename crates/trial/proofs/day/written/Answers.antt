@@ -7,8 +7,8 @@ use Rattle.trial.specs.Day.{from_plan}
 use Rattle.trial.proofs.Texts.{day_run, day_fault}
 use Rattle.trial.proofs.day.written.Goals as goal
 
-pub split-at-requires : goal.split-at-requires
-split-at-requires c = c.plan-length.ensures.bound
+pub split_at-requires : goal.split_at-requires
+split_at-requires c = c.plan_length.ensures.bound
 
 pub returns-in-Ok : goal.returns-in-Ok
 returns-in-Ok c =
@@ -16,28 +16,28 @@ returns-in-Ok c =
     vec_items
     c.run.result
     c.args.input.now
-    c.split-at.result.0.now
-    c.split-at.result.1.now
-    c.plan-length.result
+    c.split_at.result.0.now
+    c.split_at.result.1.now
+    c.plan_length.result
     (plan_meaning c.in-Ok.walk)
-    c.plan-length.ensures.value
-    c.split-at.ensures.front
-    c.split-at.ensures.back
+    c.plan_length.ensures.value
+    c.split_at.ensures.front
+    c.split_at.ensures.back
     c.in-Ok.ensures
     c.run.ensures
 
-pub returns-in-ok-tell : goal.returns-in-ok-tell
-returns-in-ok-tell c =
-    let text = c.split-at.result.0.now in
-    let calls = c.split-at.result.1.now in
+pub returns-in_ok-tell : goal.returns-in_ok-tell
+returns-in_ok-tell c =
+    let text = c.split_at.result.0.now in
+    let calls = c.split_at.result.1.now in
     ap vec_items c.into-bytes.ensures.value
     ∙ day_fault
     c.args.input.now
     text
     calls
-    (string_bytes c.in-ok-tell.field-0)
-    c.plan-length.result
-    c.plan-length.ensures.value
-    c.split-at.ensures.front
-    c.split-at.ensures.back
-    (told_of_plan {E = AllocError} (λ given. from_plan given calls) string_bytes (Ok c.in-ok-tell.field-0) (plan_of text) c.in-Err.fault refl c.in-Err.ensures c.in-ok-tell.ensures.text c.in-ok-tell.ensures.numbered)
+    (string_bytes c.in_ok-tell.field-0)
+    c.plan_length.result
+    c.plan_length.ensures.value
+    c.split_at.ensures.front
+    c.split_at.ensures.back
+    (told_of_plan {E = AllocError} (λ given. from_plan given calls) string_bytes (Ok c.in_ok-tell.field-0) (plan_of text) c.in-Err.fault refl c.in-Err.ensures c.in_ok-tell.ensures.text c.in_ok-tell.ensures.numbered)

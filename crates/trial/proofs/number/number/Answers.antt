@@ -13,7 +13,7 @@ returns-in-48 c =
     let is : ◌≡◌ {A = Option ℕ} None (number_of c.args.digits.now) = search rules in
     record { value = is; decimal = subst (WrittenAs c.args.digits.now) (sym is) (numbers c.args.digits.now) }
 
-pub returns-in-default : goal.returns-in-default
-returns-in-default c =
+pub returns-in_default : goal.returns-in_default
+returns-in_default c =
     let is : c.folded.result ≡ number_of c.args.digits.now = search rules in
     record { value = is; decimal = subst (WrittenAs c.args.digits.now) (sym is) (numbers c.args.digits.now) }

@@ -7,13 +7,13 @@ pub returns : goal.returns
 returns c =
     line_pushed
     (vec_items c.args.out.now)
-    (vec_items c.extend-from-slice.new.self)
+    (vec_items c.extend_from_slice.new.self)
     (vec_items c.push.new.self)
-    (vec_items c.extend-from-slice-2.new.self)
+    (vec_items c.extend_from_slice-2.new.self)
     (vec_items c.push-2.new.self)
     c.args.line.now
     (answer_text c.args.answer.now)
-    c.in-ok-extend-from-slice.ensures.items
-    c.in-ok-push.ensures.items
-    (c.in-ok-extend-from-slice-2.ensures.items ∙ ap (λ t. vec_items c.push.new.self ++ t) (c.as-bytes.ensures.value ∙ c.in-ok-text.ensures))
-    c.in-ok-push-2.ensures.items
+    c.in_ok-extend_from_slice.ensures.items
+    c.in_ok-push.ensures.items
+    (c.in_ok-extend_from_slice-2.ensures.items ∙ ap (λ t. vec_items c.push.new.self ++ t) (c.as_bytes.ensures.value ∙ c.in_ok-text.ensures))
+    c.in_ok-push-2.ensures.items

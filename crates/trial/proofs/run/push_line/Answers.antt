@@ -3,12 +3,12 @@ use Rattle.book.specs.State.{state}
 use Rattle.trial.proofs.Texts.{comment_written, comment_leaves}
 use Rattle.trial.proofs.run.push_line.Goals as goal
 
-pub returns-in-ok-push : goal.returns-in-ok-push
-returns-in-ok-push g c =
+pub returns-in_ok-push : goal.returns-in_ok-push
+returns-in_ok-push g c =
     let line = c.args.line.now in
     let s = state g.W.Walk.meaning c.args.book.now in
     let first : get_or line 0 0 ≡ 35 = omega arith in
     record {
-      text = comment_written c.args.width s line (vec_items c.args.out.now) (vec_items c.extend-from-slice.new.self) (vec_items c.push.new.self) first c.in-ok-extend-from-slice.ensures.items c.in-ok-push.ensures.items;
+      text = comment_written c.args.width s line (vec_items c.args.out.now) (vec_items c.extend_from_slice.new.self) (vec_items c.push.new.self) first c.in_ok-extend_from_slice.ensures.items c.in_ok-push.ensures.items;
       after = comment_leaves s line first;
     }

@@ -11,15 +11,15 @@ loop-line-preserved g c = (
   lines_step
       _
       (vec_items c.loop-line.out)
-      (vec_items c.push-line.new.out)
+      (vec_items c.push_line.new.out)
       c.args.width
       (state g.W.Walk.meaning c.loop-line.book)
-      (state g.W.Walk.meaning c.push-line.new.book)
+      (state g.W.Walk.meaning c.push_line.new.book)
       (coming c.loop-line.line-iterator)
       c.in-Some.line.now
       (coming c.next.new.self)
       c.loop-line.invariant.2
       c.in-Some.ensures.steps
-      c.in-ok-push-line.ensures.text
-      c.in-ok-push-line.ensures.after,
+      c.in_ok-push_line.ensures.text
+      c.in_ok-push_line.ensures.after,
 )

@@ -7,7 +7,7 @@ use Rattle.trial.proofs.run.push_trial.Goals as goal
 pub returns-in-Ok : goal.returns-in-Ok
 returns-in-Ok g c =
     trial_opened
-    c.push-lines.result
+    c.push_lines.result
     (g.W.Walk.meaning c.args.walk)
     c.args.opening.now
     (coming c.args.lines)
@@ -16,11 +16,11 @@ returns-in-Ok g c =
     c.width-width.result
     (state g.W.Walk.meaning c.in-Ok.book)
     (vec_items c.args.out.now)
-    (vec_items c.push-answer-in-Ok.new.out)
-    (vec_items c.push-lines.new.out)
+    (vec_items c.push_answer-in-Ok.new.out)
+    (vec_items c.push_lines.new.out)
     c.in-Some.ensures
     c.in-Ok.ensures.answer
     c.size-rows.ensures
     c.width-width.ensures
-    c.in-ok-push-answer.ensures
-    c.push-lines.ensures
+    c.in_ok-push_answer.ensures
+    c.push_lines.ensures
