@@ -12,8 +12,8 @@ returns-then-label-size g c =
     let out = seek_out (cut self.behind self.ahead m) c.args.label (omega arith) in
     record { answer = sym out.0; after = sym out.1 }
 
-pub overflow-add-start : goal.overflow-add-start
-overflow-add-start g c =
+pub overflow_add-start : goal.overflow_add-start
+overflow_add-start g c =
     let self = c.args.self.now in
     let m = g.W.Walk.meaning self.below in
     let lawful = g.met.W.Walk.lawful self.below in
@@ -21,13 +21,13 @@ overflow-add-start g c =
     omega (arith, cut_fits m lawful self.behind self.ahead, part_size m lawful self.behind self.ahead)
 
 -- the walk below goes to every label of the part
-pub returns-in-err-seek : goal.returns-in-err-seek
-returns-in-err-seek g c =
+pub returns-in_err-seek : goal.returns-in_err-seek
+returns-in_err-seek g c =
     let self = c.args.self.now in
     let m = g.W.Walk.meaning self.below in
     let lawful = g.met.W.Walk.lawful self.below in
     let below = seek_in m (c.start-start.result + c.args.label) (omega (arith, cut_fits m lawful self.behind self.ahead, part_size m lawful self.behind self.ahead)) in
-    absurd (not_both _ _ c.in-err-seek.ensures.answer below.0)
+    absurd (not_both _ _ c.in_err-seek.ensures.answer below.0)
 
 pub returns : goal.returns
 returns g c =
