@@ -10,4 +10,4 @@ returns g c =
     let swing = swings self.order in
     let a = g.L.Walk.meaning self.left in
     let b = g.R.Walk.meaning self.right in
-    c.unwrap-or.ensures ∙ ap (λ r. result_unwrap_or r 0) c.join-size.ensures ∙ join_rows swing a b
+    c.unwrap_or.ensures ∙ ap (λ r. result_unwrap_or r 0) c.join_size.ensures ∙ join_rows swing a b

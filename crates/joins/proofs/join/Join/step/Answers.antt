@@ -20,8 +20,8 @@ returns-then-rows-eq0 g c =
     let none = step_none c.args.down (joined swing a b) (join_lawful swing a b lawful_a lawful_b) (sym c.rows.ensures ∙ c.if-rows-eq0.true) in
     record { answer = sym none.0; after = sym none.1 }
 
-pub returns-then-is-ok : goal.returns-then-is-ok
-returns-then-is-ok g c =
+pub returns-then-is_ok : goal.returns-then-is_ok
+returns-then-is_ok g c =
     let self = c.args.self.now in
     let swing = swings self.order in
     let a = g.L.Walk.meaning self.left in
@@ -34,11 +34,11 @@ returns-then-is-ok g c =
     let d = way (swing && odd a.place) down in
     let told = c.step.ensures.answer ∙ ap (λ t. steps (way t down) b) back_is in
     let moved = c.step.ensures.after ∙ ap (λ t. after_step (way t down) b) back_is in
-    let goes = join_steps_right swing a b lawful_a lawful_b rows down (sym (ap is_ok told) ∙ sym c.is-ok.ensures.value ∙ c.if-is-ok.true) in
+    let goes = join_steps_right swing a b lawful_a lawful_b rows down (sym (ap is_ok told) ∙ sym c.is_ok.ensures.value ∙ c.if-is_ok.true) in
     record { answer = sym goes.0; after = ap (joined swing a) moved ∙ sym goes.1 }
 
-pub returns-in-err-step : goal.returns-in-err-step
-returns-in-err-step g c =
+pub returns-in_err-step : goal.returns-in_err-step
+returns-in_err-step g c =
     let self = c.args.self.now in
     let swing = swings self.order in
     let a = g.L.Walk.meaning self.left in
@@ -51,10 +51,10 @@ returns-in-err-step g c =
     let d = way (swing && odd a.place) down in
     let told = c.step.ensures.answer ∙ ap (λ t. steps (way t down) b) back_is in
     let moved = c.step.ensures.after ∙ ap (λ t. after_step (way t down) b) back_is in
-    let end = step_refused d b (right_inside swing a b lawful_a lawful_b rows) (sym (ap is_ok told) ∙ sym c.is-ok.ensures.value ∙ c.if-is-ok.false) in
+    let end = step_refused d b (right_inside swing a b lawful_a lawful_b rows) (sym (ap is_ok told) ∙ sym c.is_ok.ensures.value ∙ c.if-is_ok.false) in
     let stays = moved ∙ (step_out d b end).1 in
-    let why = err_from_is_err_and c.from-residual.result c.from-residual.ensures.1 in
-    let refused = c.in-err-step.ensures.answer in
+    let why = err_from_is_err_and c.from_residual.result c.from_residual.ensures.1 in
+    let refused = c.in_err-step.ensures.answer in
     let last = step_refused down a (left_inside swing a b lawful_a lawful_b rows) (sym (ap is_ok refused)) in
     let left = step_out down a last in
     let none = join_stays swing a b lawful_a lawful_b rows down end last in
@@ -74,7 +74,7 @@ rewind-requires g c =
     let d = way (swing && odd a.place) down in
     let told = c.step.ensures.answer ∙ ap (λ t. steps (way t down) b) back_is in
     let moved = c.step.ensures.after ∙ ap (λ t. after_step (way t down) b) back_is in
-    let end = step_refused d b (right_inside swing a b lawful_a lawful_b rows) (sym (ap is_ok told) ∙ sym c.is-ok.ensures.value ∙ c.if-is-ok.false) in
+    let end = step_refused d b (right_inside swing a b lawful_a lawful_b rows) (sym (ap is_ok told) ∙ sym c.is_ok.ensures.value ∙ c.if-is_ok.false) in
     let stays = moved ∙ (step_out d b end).1 in
     omega (arith, ap size stays, rows.some_right)
 
@@ -92,9 +92,9 @@ returns-in-Odometer g c =
     let d = way (swing && odd a.place) down in
     let told = c.step.ensures.answer ∙ ap (λ t. steps (way t down) b) back_is in
     let moved = c.step.ensures.after ∙ ap (λ t. after_step (way t down) b) back_is in
-    let end = step_refused d b (right_inside swing a b lawful_a lawful_b rows) (sym (ap is_ok told) ∙ sym c.is-ok.ensures.value ∙ c.if-is-ok.false) in
+    let end = step_refused d b (right_inside swing a b lawful_a lawful_b rows) (sym (ap is_ok told) ∙ sym c.is_ok.ensures.value ∙ c.if-is_ok.false) in
     let stays = moved ∙ (step_out d b end).1 in
-    let to = step_accepted down a (left_inside swing a b lawful_a lawful_b rows) (sym (ap is_ok c.in-ok-step.ensures.answer)) in
+    let to = step_accepted down a (left_inside swing a b lawful_a lawful_b rows) (sym (ap is_ok c.in_ok-step.ensures.answer)) in
     let left = c.step-2.ensures.after ∙ (step_in down a to.0 to.2 to.1).1 in
     let goes = join_carries swing a b lawful_a lawful_b rows down end (ap swings c.in-Odometer.is) to.0 to.1 to.2 in
     let right = c.rewind.ensures.after ∙ ap (λ m. standing m (cond down (size m - 1) 0)) stays in
@@ -114,9 +114,9 @@ returns-in-Swing g c =
     let d = way (swing && odd a.place) down in
     let told = c.step.ensures.answer ∙ ap (λ t. steps (way t down) b) back_is in
     let moved = c.step.ensures.after ∙ ap (λ t. after_step (way t down) b) back_is in
-    let end = step_refused d b (right_inside swing a b lawful_a lawful_b rows) (sym (ap is_ok told) ∙ sym c.is-ok.ensures.value ∙ c.if-is-ok.false) in
+    let end = step_refused d b (right_inside swing a b lawful_a lawful_b rows) (sym (ap is_ok told) ∙ sym c.is_ok.ensures.value ∙ c.if-is_ok.false) in
     let stays = moved ∙ (step_out d b end).1 in
-    let to = step_accepted down a (left_inside swing a b lawful_a lawful_b rows) (sym (ap is_ok c.in-ok-step.ensures.answer)) in
+    let to = step_accepted down a (left_inside swing a b lawful_a lawful_b rows) (sym (ap is_ok c.in_ok-step.ensures.answer)) in
     let left = c.step-2.ensures.after ∙ (step_in down a to.0 to.2 to.1).1 in
     let goes = join_turns swing a b lawful_a lawful_b rows down end (ap swings c.in-Swing.is) to.0 to.1 to.2 in
     record { answer = sym goes.0; after = ap₂ (joined swing) left stays ∙ sym goes.1 }

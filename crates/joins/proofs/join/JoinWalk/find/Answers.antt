@@ -22,8 +22,8 @@ returns-then-rows-eq0 g c =
           sym (join_lost_width swing a b lawful_a lawful_b (some_rows swing a b (omega (arith, w.if-rows-eq0.false))) r (λ e. w.if-row-width.true (omega (arith, w.width.ensures))))
     ]
 
-pub returns-in-err-i : goal.returns-in-err-i
-returns-in-err-i g c =
+pub returns-in_err-i : goal.returns-in_err-i
+returns-in_err-i g c =
     let self = c.args.self.now in
     let swing = swings self.order in
     let a = g.L.Walk.meaning self.left in
@@ -31,11 +31,11 @@ returns-in-err-i g c =
     let lawful_a = g.met.L.Walk.lawful self.left in
     let lawful_b = g.met.R.Walk.lawful self.right in
     let rows = some_rows swing a b (omega arith) in
-    let why = err_from_is_err_and c.from-residual.result c.from-residual.ensures.1 in
-    why.1 ∙ ap Err why.2 ∙ sym (join_lost_left swing a b lawful_a lawful_b rows c.args.row.now _ _ (ap (λ n. take n c.args.row.now) (omega arith)) c.in-err-i.ensures)
+    let why = err_from_is_err_and c.from_residual.result c.from_residual.ensures.1 in
+    why.1 ∙ ap Err why.2 ∙ sym (join_lost_left swing a b lawful_a lawful_b rows c.args.row.now _ _ (ap (λ n. take n c.args.row.now) (omega arith)) c.in_err-i.ensures)
 
-pub returns-in-err-j : goal.returns-in-err-j
-returns-in-err-j g c =
+pub returns-in_err-j : goal.returns-in_err-j
+returns-in_err-j g c =
     let self = c.args.self.now in
     let swing = swings self.order in
     let a = g.L.Walk.meaning self.left in
@@ -43,8 +43,8 @@ returns-in-err-j g c =
     let lawful_a = g.met.L.Walk.lawful self.left in
     let lawful_b = g.met.R.Walk.lawful self.right in
     let rows = some_rows swing a b (omega arith) in
-    let why = err_from_is_err_and c.from-residual-in-err-j.result c.from-residual-in-err-j.ensures.1 in
-    why.1 ∙ ap Err why.2 ∙ sym (join_lost_right swing a b lawful_a lawful_b rows c.args.row.now _ _ (take_rest c.args.row.now c.width-width.result ∙ ap (λ n. drop n c.args.row.now) c.width-width.ensures) c.in-err-j.ensures)
+    let why = err_from_is_err_and c.from_residual-in_err-j.result c.from_residual-in_err-j.ensures.1 in
+    why.1 ∙ ap Err why.2 ∙ sym (join_lost_right swing a b lawful_a lawful_b rows c.args.row.now _ _ (take_rest c.args.row.now c.width-width.result ∙ ap (λ n. drop n c.args.row.now) c.width-width.ensures) c.in_err-j.ensures)
 
 pub label-requires : goal.label-requires
 label-requires g c =
@@ -53,7 +53,7 @@ label-requires g c =
     let a = g.L.Walk.meaning self.left in
     let b = g.R.Walk.meaning self.right in
     let rows = some_rows swing a b (omega arith) in
-    record { fits = ap is_ok rows.fits.told; left = (found a _ c.in-ok-i.i c.in-ok-i.ensures).0; right = (found b _ c.in-ok-j.j c.in-ok-j.ensures).0 }
+    record { fits = ap is_ok rows.fits.told; left = (found a _ c.in_ok-i.i c.in_ok-i.ensures).0; right = (found b _ c.in_ok-j.j c.in_ok-j.ensures).0 }
 
 pub returns : goal.returns
 returns g c =
@@ -67,4 +67,4 @@ returns g c =
     let r = c.args.row.now in
     let w = c.width-width.result in
     let parts : take (w - 0) r ++ take (length r - w) (drop w r) ≡ r = ap₂ ◌++◌ (ap (λ n. take n r) (omega arith)) (take_rest r w) ∙ take-append-drop w r in
-    ap Ok c.label.ensures ∙ sym (join_found swing a b lawful_a lawful_b rows r _ _ c.in-ok-i.i c.in-ok-j.j parts c.in-ok-i.ensures c.in-ok-j.ensures)
+    ap Ok c.label.ensures ∙ sym (join_found swing a b lawful_a lawful_b rows r _ _ c.in_ok-i.i c.in_ok-j.j parts c.in_ok-i.ensures c.in_ok-j.ensures)

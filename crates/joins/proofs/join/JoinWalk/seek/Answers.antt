@@ -7,16 +7,16 @@ use Rattle.joins.specs.Joined.{pair_divided}
 use Rattle.joins.proofs.JoinCalls.{some_rows, join_seek}
 use Rattle.joins.proofs.join.JoinWalk.seek.Goals as goal
 
-pub nonzero-div-i : goal.nonzero-div-i
-nonzero-div-i g c =
+pub nonzero_div-i : goal.nonzero_div-i
+nonzero_div-i g c =
     let self = c.args.self.now in
     let swing = swings self.order in
     let a = g.L.Walk.meaning self.left in
     let b = g.R.Walk.meaning self.right in
     omega (arith, (some_rows swing a b (omega arith)).some_right)
 
-pub nonzero-rem-label : goal.nonzero-rem-label
-nonzero-rem-label g c =
+pub nonzero_rem-label : goal.nonzero_rem-label
+nonzero_rem-label g c =
     let self = c.args.self.now in
     let swing = swings self.order in
     let a = g.L.Walk.meaning self.left in
@@ -32,8 +32,8 @@ mirror-j-requires g c =
     mod_below c.args.label c.size-n.result (omega (arith, (some_rows swing a b (omega arith)).some_right))
 
 -- the left walk goes to every label that it has
-pub returns-in-err-seek : goal.returns-in-err-seek
-returns-in-err-seek g c =
+pub returns-in_err-seek : goal.returns-in_err-seek
+returns-in_err-seek g c =
     let self = c.args.self.now in
     let swing = swings self.order in
     let a = g.L.Walk.meaning self.left in
@@ -42,7 +42,7 @@ returns-in-err-seek g c =
     let n = c.size-n.result in
     let label = c.args.label in
     let pair = pair_divided swing (size a) (size b) n label c.mirror-j.result c.size-n.ensures (omega (arith, rows.all)) (c.mirror-j.ensures ∙ ap (λ t. mirrored t n (label % n)) c.backward.ensures) in
-    absurd (not_both _ _ c.in-err-seek.ensures.answer (seek_in a (label / n) pair.0).0)
+    absurd (not_both _ _ c.in_err-seek.ensures.answer (seek_in a (label / n) pair.0).0)
 
 pub returns : goal.returns
 returns g c =
