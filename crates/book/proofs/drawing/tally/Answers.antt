@@ -22,9 +22,9 @@ pub loop-lane-preserved : goal.loop-lane-preserved
 loop-lane-preserved c =
     let more = sum_by_more left c.args.lanes.now c.loop-lane.lane-index no_lane c.loop-lane-test.true in
     let one_more = sum_by_more (λ lane. holding lane.hand) c.args.lanes.now c.loop-lane.lane-index no_lane c.loop-lane-test.true in (
-      elim c.if-is-some.branch [
-        | goal.then-is-some w ↦ let one : holding (get_or c.args.lanes.now c.loop-lane.lane-index no_lane).hand ≡ 1 = ap (λ b. mathlib.Core.Bool.cond b 1 0) (sym c.is-some.ensures ∙ w.if-is-some.true) in omega arith
-        | goal.else-is-some w ↦ let none : holding (get_or c.args.lanes.now c.loop-lane.lane-index no_lane).hand ≡ 0 = ap (λ b. mathlib.Core.Bool.cond b 1 0) (sym c.is-some.ensures ∙ w.if-is-some.false) in omega arith
+      elim c.if-is_some.branch [
+        | goal.then-is_some w ↦ let one : holding (get_or c.args.lanes.now c.loop-lane.lane-index no_lane).hand ≡ 1 = ap (λ b. mathlib.Core.Bool.cond b 1 0) (sym c.is-some.ensures ∙ w.if-is-some.true) in omega arith
+        | goal.else-is_some w ↦ let none : holding (get_or c.args.lanes.now c.loop-lane.lane-index no_lane).hand ≡ 0 = ap (λ b. mathlib.Core.Bool.cond b 1 0) (sym c.is-some.ensures ∙ w.if-is-some.false) in omega arith
       ],
       omega arith,
     )

@@ -8,9 +8,9 @@ use Rattle.book.proofs.book.Book.take.Goals as goal
 pub remove-requires : goal.remove-requires
 remove-requires g c =
     let known : c.args.printer < length c.args.self.now.ledger.lanes.items = search rules in
-    drew_drawable c.args.self.now.ledger.waiting.items c.args.self.now.ledger.lanes.items c.args.printer c.in-ok-draw.draw known
-    (drew c.args.self.now.ledger.waiting.items c.args.self.now.ledger.lanes.items c.args.printer c.in-ok-draw.draw
-    (sym c.next-draw.ensures ∙ c.in-ok-draw.ensures.ok-part))
+    drew_drawable c.args.self.now.ledger.waiting.items c.args.self.now.ledger.lanes.items c.args.printer c.in_ok-draw.draw known
+    (drew c.args.self.now.ledger.waiting.items c.args.self.now.ledger.lanes.items c.args.printer c.in_ok-draw.draw
+    (sym c.next_draw.ensures ∙ c.in_ok-draw.ensures.ok_part))
 
 pub invariant-of-self : goal.invariant-of-self
 invariant-of-self g c =
