@@ -5,15 +5,15 @@ use Rattle.book.specs.Lanes.{hands, undrawn, left, no_lane}
 use Rattle.book.proofs.Accounts.{holding}
 use Rattle.book.proofs.drawing.tally.Goals as goal
 
-pub overflow-add-hands : goal.overflow-add-hands
-overflow-add-hands c =
+pub overflow_add-hands : goal.overflow_add-hands
+overflow_add-hands c =
     let more = sum_by_more (λ lane. holding lane.hand) c.args.lanes.now c.loop-lane.lane-index no_lane c.loop-lane-test.true in
     let all = sum_by-take-le (λ lane. holding lane.hand) c.args.lanes.now (c.loop-lane.lane-index + 1) in
-    let one : holding (get_or c.args.lanes.now c.loop-lane.lane-index no_lane).hand ≡ 1 = ap (λ b. mathlib.Core.Bool.cond b 1 0) (sym c.if-is-some.ensures) in
+    let one : holding (get_or c.args.lanes.now c.loop-lane.lane-index no_lane).hand ≡ 1 = ap (λ b. mathlib.Core.Bool.cond b 1 0) (sym c.if-is_some.ensures) in
     search rules
 
-pub overflow-add-undrawn : goal.overflow-add-undrawn
-overflow-add-undrawn c =
+pub overflow_add-undrawn : goal.overflow_add-undrawn
+overflow_add-undrawn c =
     let more = sum_by_more left c.args.lanes.now c.loop-lane.lane-index no_lane c.loop-lane-test.true in
     let all = sum_by-take-le left c.args.lanes.now (c.loop-lane.lane-index + 1) in
     search rules
@@ -22,9 +22,9 @@ pub loop-lane-preserved : goal.loop-lane-preserved
 loop-lane-preserved c =
     let more = sum_by_more left c.args.lanes.now c.loop-lane.lane-index no_lane c.loop-lane-test.true in
     let one_more = sum_by_more (λ lane. holding lane.hand) c.args.lanes.now c.loop-lane.lane-index no_lane c.loop-lane-test.true in (
-      elim c.if-is-some.branch [
-        | goal.then-is-some w ↦ let one : holding (get_or c.args.lanes.now c.loop-lane.lane-index no_lane).hand ≡ 1 = ap (λ b. mathlib.Core.Bool.cond b 1 0) (sym c.is-some.ensures ∙ w.if-is-some.true) in omega arith
-        | goal.else-is-some w ↦ let none : holding (get_or c.args.lanes.now c.loop-lane.lane-index no_lane).hand ≡ 0 = ap (λ b. mathlib.Core.Bool.cond b 1 0) (sym c.is-some.ensures ∙ w.if-is-some.false) in omega arith
+      elim c.if-is_some.branch [
+        | goal.then-is_some w ↦ let one : holding (get_or c.args.lanes.now c.loop-lane.lane-index no_lane).hand ≡ 1 = ap (λ b. mathlib.Core.Bool.cond b 1 0) (sym c.is_some.ensures ∙ w.if-is_some.true) in omega arith
+        | goal.else-is_some w ↦ let none : holding (get_or c.args.lanes.now c.loop-lane.lane-index no_lane).hand ≡ 0 = ap (λ b. mathlib.Core.Bool.cond b 1 0) (sym c.is_some.ensures ∙ w.if-is_some.false) in omega arith
       ],
       omega arith,
     )

@@ -2,20 +2,20 @@ use Rattle.std.proofs.Common.{sym, ◌∙◌, arith}
 use Rattle.book.proofs.Accounts.{emptied}
 use Rattle.book.proofs.book.Book.printed.Goals as goal
 
-pub invariant-of-self : goal.invariant-of-self
-invariant-of-self g c =
-    let counts = emptied c.args.self.now.ledger.lanes.items c.args.printer c.in-ok-label.label c.index-mut.result.now
-    (sym c.held.ensures ∙ c.in-ok-label.was) c.index-mut.ensures.value in
-    (omega arith, (omega arith, (omega arith, tt)))
+pub invariant_of-self : goal.invariant_of-self
+invariant_of-self g c =
+    let counts = emptied c.args.self.now.ledger.lanes.items c.args.printer c.in_ok-label.label c.index_mut.result.now
+    (sym c.held.ensures ∙ c.in_ok-label.was) c.index_mut.ensures.value in
+    record { few = omega arith; out = omega arith; room = omega arith }
 
-pub overflow-add-self : goal.overflow-add-self
-overflow-add-self g c =
-    let counts = emptied c.args.self.now.ledger.lanes.items c.args.printer c.in-ok-label.label c.index-mut.result.now
-    (sym c.held.ensures ∙ c.in-ok-label.was) c.index-mut.ensures.value in
+pub overflow_add-self : goal.overflow_add-self
+overflow_add-self g c =
+    let counts = emptied c.args.self.now.ledger.lanes.items c.args.printer c.in_ok-label.label c.index_mut.result.now
+    (sym c.held.ensures ∙ c.in_ok-label.was) c.index_mut.ensures.value in
     omega arith
 
-pub invariant-of-self-2 : goal.invariant-of-self-2
-invariant-of-self-2 g c =
-    let counts = emptied c.args.self.now.ledger.lanes.items c.args.printer c.in-ok-label.label c.index-mut.result.now
-    (sym c.held.ensures ∙ c.in-ok-label.was) c.index-mut.ensures.value in
-    ((omega arith, (omega arith, (omega arith, tt))), tt)
+pub invariant_of-self-2 : goal.invariant_of-self-2
+invariant_of-self-2 g c =
+    let counts = emptied c.args.self.now.ledger.lanes.items c.args.printer c.in_ok-label.label c.index_mut.result.now
+    (sym c.held.ensures ∙ c.in_ok-label.was) c.index_mut.ensures.value in
+    record { few = omega arith; out = omega arith; room = omega arith }

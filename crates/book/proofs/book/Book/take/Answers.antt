@@ -8,17 +8,17 @@ use Rattle.book.proofs.book.Book.take.Goals as goal
 pub remove-requires : goal.remove-requires
 remove-requires g c =
     let known : c.args.printer < length c.args.self.now.ledger.lanes.items = search rules in
-    drew_drawable c.args.self.now.ledger.waiting.items c.args.self.now.ledger.lanes.items c.args.printer c.in-ok-draw.draw known
-    (drew c.args.self.now.ledger.waiting.items c.args.self.now.ledger.lanes.items c.args.printer c.in-ok-draw.draw
-    (sym c.next-draw.ensures ∙ c.in-ok-draw.ensures.ok-part))
+    drew_drawable c.args.self.now.ledger.waiting.items c.args.self.now.ledger.lanes.items c.args.printer c.in_ok-draw.draw known
+    (drew c.args.self.now.ledger.waiting.items c.args.self.now.ledger.lanes.items c.args.printer c.in_ok-draw.draw
+    (sym c.next_draw.ensures ∙ c.in_ok-draw.ensures.ok_part))
 
-pub invariant-of-self : goal.invariant-of-self
-invariant-of-self g c =
+pub invariant_of-self : goal.invariant_of-self
+invariant_of-self g c =
     let known : c.args.printer < length c.args.self.now.ledger.lanes.items = search rules in
     let empty : is_some (lane_at c.args.self.now.ledger.lanes.items c.args.printer).hand ≡ false = search rules in
     let counts = given_at c.args.self.now.ledger.waiting.items c.remove.new.self.waiting.items c.args.self.now.ledger.lanes.items c.remove.new.self.lanes.items
-    c.args.printer c.in-ok-draw.draw c.index-mut.result.now known empty (sym c.next-draw.ensures ∙ c.in-ok-draw.ensures.ok-part)
-    c.remove.ensures.lanes c.remove.ensures.waiting c.index-mut.ensures.value in
-    let long = length-set c.remove.new.self.lanes.items c.args.printer (rehanded c.index-mut.result.now (Some c.in-ok-draw.draw.label)) in
+    c.args.printer c.in_ok-draw.draw c.index_mut.result.now known empty (sym c.next_draw.ensures ∙ c.in_ok-draw.ensures.ok_part)
+    c.remove.ensures.lanes c.remove.ensures.waiting c.index_mut.ensures.value in
+    let long = length-set c.remove.new.self.lanes.items c.args.printer (rehanded c.index_mut.result.now (Some c.in_ok-draw.draw.label)) in
     let kept = still_kept c.args.self.now.ledger c.remove.new.self _ counts long c.remove.ensures.bench in
-    (kept.0, (kept.1, (c.remove.new.self.room, tt)))
+    record { few = kept.0; out = kept.1; room = c.remove.new.self.room }
