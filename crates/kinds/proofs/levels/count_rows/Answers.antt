@@ -14,7 +14,7 @@ pub loop-radix-preserved : goal.loop-radix-preserved
 loop-radix-preserved c =
     let radices = c.args.radices.now in
     let i = c.loop-radix.radix-index in
-    let told = c.in-ok-count.ensures in (
+    let told = c.in_ok-count.ensures in (
       omega (arith, told.0, told.1),
       ap (λ n. n * product (drop (i + 1) radices)) (told.1 ∙ ap (λ radix. c.loop-radix.count * radix) c.from.ensures)
           ∙ count_more radices i c.loop-radix-test.true c.loop-radix.count c.loop-radix.invariant.1,

@@ -16,7 +16,7 @@ loop-radix-preserved c =
     let radices = c.args.radices.now in
     let i = c.loop-radix.radix-index in
     let rest = ap₂ ◌/◌ c.loop-radix.invariant.0 c.from-below.ensures ∙ rest_more radices i c.loop-radix-test.true c.requires.fit in
-    let pushed = chosen _ _ _ _ c.push.ensures.items (ap is_ok c.in-ok-push.was) in (
+    let pushed = chosen _ _ _ _ c.push.ensures.items (ap is_ok c.in_ok-push.was) in (
       rest,
       ap (λ ls. ls ++ levels_of (drop (i + 1) radices)) (pushed ∙ ap (λ n. c.loop-radix.levels.items ++ (record { radix = lib.ListN.get_or radices i 0; below = n } ∷ [])) rest)
           ∙ levels_more radices i c.loop-radix-test.true _ c.loop-radix.invariant.1,

@@ -24,7 +24,7 @@ pub loop-done-preserved : goal.loop-done-preserved
 loop-done-preserved c =
     let n = c.from.result * c.from-in-loop-done.result / c.from-in-loop-done-2.result in
     let next = mixings_next c.args.some c.args.rows c.loop-done.done _ _ _ (c.from.ensures ∙ c.loop-done.invariant.1) c.from-in-loop-done.ensures c.from-in-loop-done-2.ensures in
-    let told = counted_some c.in-ok-mixed.mixed n (c.in-ok-mixed.ensures.value ∙ counted_converted c.try-from.result n c.try-from.ensures) in
+    let told = counted_some c.in_ok-mixed.mixed n (c.in_ok-mixed.ensures.value ∙ counted_converted c.try_from.result n c.try_from.ensures) in
     (omega (arith, told.0, told.1), told.0 ∙ next)
 
 pub returns : goal.returns

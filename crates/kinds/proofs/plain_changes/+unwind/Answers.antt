@@ -22,20 +22,20 @@ returns-in-err-sweep t c =
     (rest_label row c.take-out.new.row position (get_or row position 0) (length row - 1 - 0) None at.0 c.take-out.ensures (omega arith) c.in-err-sweep.ensures))
 
 -- the label of what is left
-labelled : (t : ℕ) (c : goal.After-swept-place t) → label_of (changes (length c.args.row.now - 1)) (remove c.args.row.now c.in-ok-position.position) ≡ Some c.in-ok-sweep.sweep
+labelled : (t : ℕ) (c : goal.After-swept-place t) → label_of (changes (length c.args.row.now - 1)) (remove c.args.row.now c.in_ok-position.position) ≡ Some c.in_ok-sweep.sweep
 labelled t c =
     let row = c.args.row.now in
-    let position = c.in-ok-position.position in
-    let at = c.in-ok-position.ensures in
-    rest_label row c.take-out.new.row position (get_or row position 0) (length row - 1 - 0) (Some c.in-ok-sweep.sweep) at.0 c.take-out.ensures (omega arith) c.in-ok-sweep.ensures
+    let position = c.in_ok-position.position in
+    let at = c.in_ok-position.ensures in
+    rest_label row c.take_out.new.row position (get_or row position 0) (length row - 1 - 0) (Some c.in_ok-sweep.sweep) at.0 c.take_out.ensures (omega arith) c.in_ok-sweep.ensures
 
 -- the label is small
-small : (t : ℕ) (c : goal.After-swept-place t) → c.in-ok-sweep.sweep * length c.args.row.now + c.swept-place.result < 479001600
+small : (t : ℕ) (c : goal.After-swept-place t) → c.in_ok-sweep.sweep * length c.args.row.now + c.swept-place.result < 479001600
 small t c =
     let row = c.args.row.now in
-    let position = c.in-ok-position.position in
-    let sweep = c.in-ok-sweep.sweep in
-    let at = c.in-ok-position.ensures in
+    let position = c.in_ok-position.position in
+    let sweep = c.in_ok-sweep.sweep in
+    let at = c.in_ok-position.ensures in
     let n = length row - 1 in
     let stands = label_of_stands (changes n) (remove row position) sweep (labelled t c) in
     label_small (length row) n sweep c.swept-place.result (omega arith) c.requires stands.0 (omega (arith, c.swept-place.ensures, position_below n sweep position (omega (arith, at.0))))
@@ -49,7 +49,7 @@ overflow-add-result t c = omega (arith, small t c)
 pub returns : goal.returns
 returns t c =
     let row = c.args.row.now in
-    let position = c.in-ok-position.position in
-    let sweep = c.in-ok-sweep.sweep in
-    let at = c.in-ok-position.ensures in
+    let position = c.in_ok-position.position in
+    let sweep = c.in_ok-sweep.sweep in
+    let at = c.in_ok-position.ensures in
     ap (λ place. Some (sweep * length row + place)) c.swept-place.ensures ∙ sym (label_more (length row - 1) position row (omega arith) at.0 at.1 sweep (labelled t c))

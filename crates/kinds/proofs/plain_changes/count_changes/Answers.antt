@@ -10,7 +10,7 @@ returns-in-err-count c =
 
 pub loop-last-preserved : goal.loop-last-preserved
 loop-last-preserved c =
-    let told = c.in-ok-count.ensures in (
+    let told = c.in_ok-count.ensures in (
       omega (arith, told.0, told.1),
       told.1 ∙ ap (λ last. c.loop-last.count * (last + 1)) c.from.ensures ∙ orders_more c.loop-last.last c.loop-last.count c.loop-last.invariant.1,
     )

@@ -19,7 +19,7 @@ pub returns : goal.returns
 returns c =
     let n = c.args.n in
     let t = c.args.t in
-    let fits = sym c.choice-fits.ensures ∙ c.if-not-choice-fits.false in
+    let fits = sym c.choice_fits.ensures ∙ c.if-not-choice_fits.false in
     let fit = ones_fitting n t fits in
-    tabled_fit (choice_fits n t) _ _ c.sums-table.result fits
-    (subst (λ s. Tabled true (ways s t) (λ x. (vec_items x.0 ≡ bins_of s) × (x.1 ≡ ways s t)) c.sums-table.result) (ones_taken n c.from.result c.from.ensures fit.n_small) c.sums-table.ensures)
+    tabled_fit (choice_fits n t) _ _ c.sums_table.result fits
+    (subst (λ s. Tabled true (ways s t) (λ x. (vec_items x.0 ≡ bins_of s) × (x.1 ≡ ways s t)) c.sums_table.result) (ones_taken n c.from.result c.from.ensures fit.n_small) c.sums_table.ensures)

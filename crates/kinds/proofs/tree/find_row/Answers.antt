@@ -19,9 +19,9 @@ loop-i-preserved g c =
     let row = c.args.row.now in
     let i = c.loop-i.i in
     let below = g.N.Node.below in
-    let went = stands_then c.loop-i.invariant.1 (get_or row i 0) _ (below c.enter.new.self) c.in-ok-stretch.ensures.branch in
+    let went = stands_then c.loop-i.invariant.1 (get_or row i 0) _ (below c.enter.new.self) c.in_ok-stretch.ensures.branch in
     let more = take_more row i 0 (omega arith) in (
-      omega (arith, c.in-ok-stretch.ensures.down, c.loop-i.invariant.0),
+      omega (arith, c.in_ok-stretch.ensures.down, c.loop-i.invariant.0),
       subst₂ (λ front s. Stands (below c.args.node) front s (below c.enter.new.self)) (sym more) (sym c.then-whole.ensures) went,
     )
 

@@ -24,18 +24,18 @@ returns-in-err-levels c =
 pub new-requires : goal.new-requires
 new-requires c =
     let n = c.args.n in let list = c.args.list.now in
-    let told = c.in-ok-levels.ensures in
-    let levels = vec_items c.in-ok-levels.levels in
+    let told = c.in_ok-levels.ensures in
+    let levels = vec_items c.in_ok-levels.levels in
     let table = radix_table n list levels told.0 told.2.0 in
-    record { holds = table.holds; counted = radix_count true list levels c.in-ok-levels.size table.same told.2.1; wide = table.wide }
+    record { holds = table.holds; counted = radix_count true list levels c.in_ok-levels.size table.same told.2.1; wide = table.wide }
 
 pub returns : goal.returns
 returns c =
     let n = c.args.n in let list = c.args.list.now in
-    let told = c.in-ok-levels.ensures in
-    let table = radix_table n list (vec_items c.in-ok-levels.levels) told.0 told.2.0 in
+    let told = c.in_ok-levels.ensures in
+    let table = radix_table n list (vec_items c.in_ok-levels.levels) told.0 told.2.0 in
     let same = ap gray table.same in
     record {
-      made = walk_of_table (RadixRows list) kind_meaning (radices_fit n list) (gray list) (n) true (product list) (gray_length list) (c.in-ok-levels.levels, c.in-ok-levels.size) c.new.result (Gray c.in-ok-levels.levels) told c.new.ensures same table.width refl;
+      made = walk_of_table (RadixRows list) kind_meaning (radices_fit n list) (gray list) (n) true (product list) (gray_length list) (c.in_ok-levels.levels, c.in_ok-levels.size) c.new.result (Gray c.in_ok-levels.levels) told c.new.ensures same table.width refl;
       laws = subst (λ m. GrayLaws list m.rows) (sym c.new.ensures) (subst (GrayLaws list) (sym same) (gray_laws list));
     }

@@ -24,9 +24,9 @@ returns-in-err-bins c =
 pub new-requires : goal.new-requires
 new-requires c =
     let n = c.args.n in let t = c.args.t in let list = c.args.list.now in
-    let told = c.in-ok-bins.ensures in
+    let told = c.in_ok-bins.ensures in
     let fit = stocks_fitting n t list told.0 in
-    let bins = vec_items c.in-ok-bins.bins in
+    let bins = vec_items c.in_ok-bins.bins in
     let stocks = list in
     let table = sum_table stocks t bins told.2.0 (omega (arith, fit.n_small, fit.long)) fit.all fit.t_small in
     record { holds = table.holds; counted = told.2.1 ∙ sym (stock_length stocks t) ∙ ap (λ s. length (stock s t)) (sym table.same); wide = sym table.wide }
@@ -34,13 +34,13 @@ new-requires c =
 pub returns : goal.returns
 returns c =
     let n = c.args.n in let t = c.args.t in let list = c.args.list.now in
-    let told = c.in-ok-bins.ensures in
+    let told = c.in_ok-bins.ensures in
     let fit = stocks_fitting n t list told.0 in
-    let bins = vec_items c.in-ok-bins.bins in
+    let bins = vec_items c.in_ok-bins.bins in
     let stocks = list in
     let table = sum_table stocks t bins told.2.0 (omega (arith, fit.n_small, fit.long)) fit.all fit.t_small in
     let same = ap (λ s. stock s t) table.same in
     record {
-      made = walk_of_table (SumRows list t) kind_meaning (stocks_fit n t list) (stock list t) (n) false (ways list t) (stock_length list t) (c.in-ok-bins.bins, c.in-ok-bins.size) c.new.result (Stock c.in-ok-bins.bins t) told c.new.ensures same (table.wide ∙ fit.long) refl;
+      made = walk_of_table (SumRows list t) kind_meaning (stocks_fit n t list) (stock list t) (n) false (ways list t) (stock_length list t) (c.in_ok-bins.bins, c.in_ok-bins.size) c.new.result (Stock c.in_ok-bins.bins t) told c.new.ensures same (table.wide ∙ fit.long) refl;
       laws = subst (λ m. StockLaws list t m.rows) (sym c.new.ensures) (subst (StockLaws list t) (sym same) (stock_laws list t));
     }

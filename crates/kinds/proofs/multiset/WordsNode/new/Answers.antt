@@ -12,4 +12,4 @@ invariant-of-result c =
 pub returns : goal.returns
 returns c =
     let counts = c.args.counts.now in
-    (c.total.ensures, take_at c.copy-from-slice.new.self _ (length counts) (ap length c.copy-from-slice.ensures.after) ∙ c.copy-from-slice.ensures.after)
+    (c.total.ensures, take_at c.copy_from_slice.new.self _ (length counts) (ap length c.copy_from_slice.ensures.after) ∙ c.copy_from_slice.ensures.after)

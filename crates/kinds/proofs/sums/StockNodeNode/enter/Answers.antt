@@ -74,7 +74,7 @@ returns c =
     let read = ap (λ i. get_or (front bins).ways i 0) c.from.ensures in
     record {
       branch = subst₂ (λ from count. Stands (filled self.reflected (mosts bins) self.left) (value ∷ []) (record { from = from; count = count; backward = self.reflected && odd value }) (filled self.reflected (mosts (rest_of bins)) (self.left - value)))
-          (sym c.rows-before-from.ensures) (sym read)
+          (sym c.rows_before-from.ensures) (sym read)
           (node_enters self c.requires value within);
       down = rest_length bins c.requires;
     }
