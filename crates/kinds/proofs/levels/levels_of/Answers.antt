@@ -5,11 +5,11 @@ use Rattle.kinds.specs.Shapes.{levels_of}
 use Rattle.kinds.specs.Radices.{between_at, rest_more, levels_more}
 use Rattle.kinds.proofs.levels.levels_of.Goals as goal
 
-pub nonzero-div-below : goal.nonzero-div-below
-nonzero-div-below c = omega (arith, c.from-below.ensures, between_at 1 255 c.args.radices.now c.loop-radix.radix-index c.requires.fit c.loop-radix-test.true)
+pub nonzero_div-below : goal.nonzero_div-below
+nonzero_div-below c = omega (arith, c.from-below.ensures, between_at 1 255 c.args.radices.now c.loop-radix.radix-index c.requires.fit c.loop-radix-test.true)
 
-pub overflow-cast-radix : goal.overflow-cast-radix
-overflow-cast-radix c = omega (arith, between_at 1 255 c.args.radices.now c.loop-radix.radix-index c.requires.fit c.loop-radix-test.true)
+pub overflow_cast-radix : goal.overflow_cast-radix
+overflow_cast-radix c = omega (arith, between_at 1 255 c.args.radices.now c.loop-radix.radix-index c.requires.fit c.loop-radix-test.true)
 
 pub loop-radix-preserved : goal.loop-radix-preserved
 loop-radix-preserved c =

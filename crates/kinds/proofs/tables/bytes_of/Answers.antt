@@ -4,8 +4,8 @@ use Rattle.std.proofs.lemmas.List.{take_more, take_all}
 use Rattle.std.proofs.lemmas.List.Sums.{get_or-le-sum_by}
 use Rattle.kinds.proofs.tables.bytes_of.Goals as goal
 
-pub overflow-cast-count : goal.overflow-cast-count
-overflow-cast-count c = omega (arith, get_or-le-sum_by (λ x. x) c.args.counts.now c.loop-count.count_index 0 c.loop-count-test.true, c.requires)
+pub overflow_cast-count : goal.overflow_cast-count
+overflow_cast-count c = omega (arith, get_or-le-sum_by (λ x. x) c.args.counts.now c.loop-count.count-index 0 c.loop-count-test.true, c.requires)
 
 pub loop-count-preserved : goal.loop-count-preserved
 loop-count-preserved c =

@@ -5,13 +5,13 @@ use Rattle.walk.specs.Rows.{label_of}
 use Rattle.kinds.proofs.Stretches.{stands_then, stands_leaf, stands_none}
 use Rattle.kinds.proofs.tree.find_row.Goals as goal
 
-pub returns-in-err-stretch : goal.returns-in-err-stretch
-returns-in-err-stretch g c =
+pub returns-in_err-stretch : goal.returns-in_err-stretch
+returns-in_err-stretch g c =
     let row = c.args.row.now in
     let i = c.loop-i.i in
     let split = ap (λ r. take i row ++ r) (sym (drop_more row i 0 (omega arith))) ∙ take-append-drop i row in
-    c.from-residual.ensures
-    ∙ sym (stands_none c.loop-i.invariant.1 (get_or row i 0) (drop (i + 1) row) c.in-err-stretch.ensures.branch)
+    c.from_residual.ensures
+    ∙ sym (stands_none c.loop-i.invariant.1 (get_or row i 0) (drop (i + 1) row) c.in_err-stretch.ensures.branch)
     ∙ ap (label_of (g.N.Node.below c.args.node)) split
 
 pub loop-i-preserved : goal.loop-i-preserved

@@ -12,11 +12,11 @@ loop-i-init c =
     let none = drop_all _ stocks (omega arith) in
     (c.ways_of_none-ways.ensures ∙ ap capped_ways (sym none), c.in_ok-bins.ensures.items ∙ ap (λ s. reverse (bins_of s)) (sym none))
 
-pub overflow-cast-most : goal.overflow-cast-most
-overflow-cast-most c = omega (arith, (between_at 0 32 c.args.stocks.now (c.loop-i.i - 1) c.requires (omega arith)).1)
+pub overflow_cast-most : goal.overflow_cast-most
+overflow_cast-most c = omega (arith, (between_at 0 32 c.args.stocks.now (c.loop-i.i - 1) c.requires (omega arith)).1)
 
-pub ways-on-ways-requires : goal.ways-on-ways-requires
-ways-on-ways-requires c i lt = subst (λ w. get_or w i 0 ≤ 4294967296) (sym c.loop-i.invariant.0) (ways_few (drop c.loop-i.i c.args.stocks.now) i lt)
+pub ways_on-ways-requires : goal.ways_on-ways-requires
+ways_on-ways-requires c i lt = subst (λ w. get_or w i 0 ≤ 4294967296) (sym c.loop-i.invariant.0) (ways_few (drop c.loop-i.i c.args.stocks.now) i lt)
 
 pub loop-i-preserved : goal.loop-i-preserved
 loop-i-preserved c =

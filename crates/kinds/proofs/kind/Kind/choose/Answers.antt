@@ -11,14 +11,14 @@ use Rattle.kinds.specs.Bins.{bins_of}
 use Rattle.kinds.specs.declared.shape.Shape.TheVariants.{Stock}
 use Rattle.kinds.proofs.kind.Kind.choose.Goals as goal
 
-pub returns-in-err-bins : goal.returns-in-err-bins
-returns-in-err-bins c =
+pub returns-in_err-bins : goal.returns-in_err-bins
+returns-in_err-bins c =
     let n = c.args.n in let t = c.args.t in
-    let back = c.from-residual.ensures in
-    let fault = err_from_is_err_and c.from-residual.result back.1 in
+    let back = c.from_residual.ensures in
+    let fault = err_from_is_err_and c.from_residual.result back.1 in
     record {
-      made = fault_goes_on (SumRows (replicate n 1) t) kind_meaning (choice_fits n t) (choose n t) (n) false (ways (replicate n 1) t) (stock_length (replicate n 1) t) c.from-residual.result _ fault.0 fault.1 fault.2 c.in-err-bins.ensures;
-      laws = IfOk-from_err c.from-residual.result _ back.0;
+      made = fault_goes_on (SumRows (replicate n 1) t) kind_meaning (choice_fits n t) (choose n t) (n) false (ways (replicate n 1) t) (stock_length (replicate n 1) t) c.from_residual.result _ fault.0 fault.1 fault.2 c.in_err-bins.ensures;
+      laws = IfOk-from_err c.from_residual.result _ back.0;
     }
 
 pub new-requires : goal.new-requires

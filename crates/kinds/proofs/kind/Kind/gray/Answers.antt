@@ -11,14 +11,14 @@ use Rattle.kinds.specs.Gray.{gray_length, gray_laws}
 use Rattle.kinds.proofs.MadeTables.{RadixRows, radix_table, radix_count}
 use Rattle.kinds.proofs.kind.Kind.gray.Goals as goal
 
-pub returns-in-err-levels : goal.returns-in-err-levels
-returns-in-err-levels c =
+pub returns-in_err-levels : goal.returns-in_err-levels
+returns-in_err-levels c =
     let n = c.args.n in let list = c.args.list.now in
-    let back = c.from-residual.ensures in
-    let fault = err_from_is_err_and c.from-residual.result back.1 in
+    let back = c.from_residual.ensures in
+    let fault = err_from_is_err_and c.from_residual.result back.1 in
     record {
-      made = fault_goes_on (RadixRows list) kind_meaning (radices_fit n list) (gray list) (n) true (product list) (gray_length list) c.from-residual.result _ fault.0 fault.1 fault.2 c.in-err-levels.ensures;
-      laws = IfOk-from_err c.from-residual.result _ back.0;
+      made = fault_goes_on (RadixRows list) kind_meaning (radices_fit n list) (gray list) (n) true (product list) (gray_length list) c.from_residual.result _ fault.0 fault.1 fault.2 c.in_err-levels.ensures;
+      laws = IfOk-from_err c.from_residual.result _ back.0;
     }
 
 pub new-requires : goal.new-requires
