@@ -9,22 +9,22 @@ use Rattle.kinds.proofs.multiset.mix.Goals as goal
 pub loop-done-init : goal.loop-done-init
 loop-done-init c = (omega arith, sym (ap (λ n. c.args.rows * n) (mixings_none c.args.some) ∙ mul-one c.args.rows))
 
-pub overflow-mul-more : goal.overflow-mul-more
-overflow-mul-more c = omega (arith, mul-le c.from.result c.from-in-loop-done.result 4294967295 33 (omega (arith, c.loop-done.invariant.0)) (omega arith))
+pub overflow_mul-more : goal.overflow_mul-more
+overflow_mul-more c = omega (arith, mul-le c.from.result c.from-in-loop-done.result 4294967295 33 (omega (arith, c.loop-done.invariant.0)) (omega arith))
 
-pub returns-in-err-mixed : goal.returns-in-err-mixed
-returns-in-err-mixed c =
+pub returns-in_err-mixed : goal.returns-in_err-mixed
+returns-in_err-mixed c =
     let n = c.from.result * c.from-in-loop-done.result / c.from-in-loop-done-2.result in
     let next = mixings_next c.args.some c.args.rows c.loop-done.done _ _ _ (c.from.ensures ∙ c.loop-done.invariant.1) c.from-in-loop-done.ensures c.from-in-loop-done-2.ensures in
-    let over = counted_none n (c.in-err-mixed.ensures.value ∙ counted_converted c.try-from.result n c.try-from.ensures) in
+    let over = counted_none n (c.in_err-mixed.ensures.value ∙ counted_converted c.try_from.result n c.try_from.ensures) in
     let more = mul-le-mul_left c.args.rows (mixings_grow c.args.some (c.loop-done.done + 1) c.args.others (omega arith)) in
-    c.from-residual.ensures ∙ sym (counted_over (c.args.rows * mixings c.args.some c.args.others) (omega (arith, over, next, more)))
+    c.from_residual.ensures ∙ sym (counted_over (c.args.rows * mixings c.args.some c.args.others) (omega (arith, over, next, more)))
 
 pub loop-done-preserved : goal.loop-done-preserved
 loop-done-preserved c =
     let n = c.from.result * c.from-in-loop-done.result / c.from-in-loop-done-2.result in
     let next = mixings_next c.args.some c.args.rows c.loop-done.done _ _ _ (c.from.ensures ∙ c.loop-done.invariant.1) c.from-in-loop-done.ensures c.from-in-loop-done-2.ensures in
-    let told = counted_some c.in-ok-mixed.mixed n (c.in-ok-mixed.ensures.value ∙ counted_converted c.try-from.result n c.try-from.ensures) in
+    let told = counted_some c.in_ok-mixed.mixed n (c.in_ok-mixed.ensures.value ∙ counted_converted c.try_from.result n c.try_from.ensures) in
     (omega (arith, told.0, told.1), told.0 ∙ next)
 
 pub returns : goal.returns

@@ -9,8 +9,8 @@ use Rattle.kinds.proofs.plain_changes.+write_changes.Goals as goal
 pub returns-then-size-eq0 : goal.returns-then-size-eq0
 returns-then-size-eq0 t c = no_values c.args.tray.now c.args.label c.if-size-eq0.true c.requires.listed
 
-pub write-changes-requires : goal.write-changes-requires
-write-changes-requires t c =
+pub write_changes-requires : goal.write_changes-requires
+write_changes-requires t c =
     let tray = c.args.tray.now in
     let n = length tray - 1 in
     let next : length tray ≡ suc n = omega arith in
@@ -21,13 +21,13 @@ pub returns : goal.returns
 returns t c =
     let tray = c.args.tray.now in
     let label = c.args.label in
-    let front = c.write-changes.new.tray in
+    let front = c.write_changes.new.tray in
     let past = drop (length tray - 1 - 0) tray in
     let n = length tray - 1 in
     let next : length tray ≡ suc n = omega arith in
     let part : length (take (n - 0) tray) ≡ n = length-take-le (n - 0) tray (omega arith) ∙ omega arith in
     let size : length front ≡ n = omega (arith, part) in
     let whole : length front ≡ length (front ++ past) - 1 = omega (arith, length-append front past, length-drop (n - 0) tray) in
-    c.put-in.ensures
+    c.put_in.ensures
     ∙ ap (λ s. insert s c.swept-position.result n) (take_at front past (length (front ++ past) - 1) whole)
-    ∙ row_more (length tray) n next label c.requires.listed front c.swept-position.result (c.write-changes.ensures ∙ ap (λ k. row_at (changes k) (label / length tray)) part) c.swept-position.ensures
+    ∙ row_more (length tray) n next label c.requires.listed front c.swept-position.result (c.write_changes.ensures ∙ ap (λ k. row_at (changes k) (label / length tray)) part) c.swept-position.ensures

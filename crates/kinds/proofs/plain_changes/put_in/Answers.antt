@@ -9,4 +9,4 @@ returns c =
     let at = c.args.at in
     let value = c.args.value in
     let written = set row (length row - 1) value in
-    written_end at written _ ∙ turned_in row at value _ _ c.requires (take_rest written at) c.rotate-right.ensures.after
+    written_end at written _ ∙ turned_in row at value _ _ c.requires (take_rest written at) c.rotate_right.ensures.after

@@ -7,4 +7,4 @@ pub returns : goal.returns
 returns c =
     let row = c.args.row.now in
     let at = c.args.at in
-    written_end at row _ ∙ turned_out row at _ _ c.requires (take_rest row at) c.rotate-left.ensures.after
+    written_end at row _ ∙ turned_out row at _ _ c.requires (take_rest row at) c.rotate_left.ensures.after

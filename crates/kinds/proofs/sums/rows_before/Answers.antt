@@ -3,8 +3,8 @@ use Rattle.kinds.specs.Lists.{total}
 use Rattle.kinds.specs.RowSums.{total_more}
 use Rattle.kinds.proofs.sums.rows_before.Goals as goal
 
-pub overflow-add-before : goal.overflow-add-before
-overflow-add-before c =
+pub overflow_add-before : goal.overflow_add-before
+overflow_add-before c =
     let ways = c.args.bin.now.ways in
     let count : ℕ → ℕ = λ w. get_or ways (c.args.left - w) 0 in
     omega (arith, c.loop-w.invariant, ap (λ i. get_or ways i 0) c.from.ensures, total_more count (suc c.loop-w.w) c.args.value (omega arith), c.requires.few)

@@ -5,13 +5,13 @@ use Rattle.walk.specs.Rows.{label_of}
 use Rattle.kinds.proofs.Stretches.{stands_then, stands_leaf, stands_none}
 use Rattle.kinds.proofs.tree.find_row.Goals as goal
 
-pub returns-in-err-stretch : goal.returns-in-err-stretch
-returns-in-err-stretch g c =
+pub returns-in_err-stretch : goal.returns-in_err-stretch
+returns-in_err-stretch g c =
     let row = c.args.row.now in
     let i = c.loop-i.i in
     let split = ap (λ r. take i row ++ r) (sym (drop_more row i 0 (omega arith))) ∙ take-append-drop i row in
-    c.from-residual.ensures
-    ∙ sym (stands_none c.loop-i.invariant.1 (get_or row i 0) (drop (i + 1) row) c.in-err-stretch.ensures.branch)
+    c.from_residual.ensures
+    ∙ sym (stands_none c.loop-i.invariant.1 (get_or row i 0) (drop (i + 1) row) c.in_err-stretch.ensures.branch)
     ∙ ap (label_of (g.N.Node.below c.args.node)) split
 
 pub loop-i-preserved : goal.loop-i-preserved
@@ -19,9 +19,9 @@ loop-i-preserved g c =
     let row = c.args.row.now in
     let i = c.loop-i.i in
     let below = g.N.Node.below in
-    let went = stands_then c.loop-i.invariant.1 (get_or row i 0) _ (below c.enter.new.self) c.in-ok-stretch.ensures.branch in
+    let went = stands_then c.loop-i.invariant.1 (get_or row i 0) _ (below c.enter.new.self) c.in_ok-stretch.ensures.branch in
     let more = take_more row i 0 (omega arith) in (
-      omega (arith, c.in-ok-stretch.ensures.down, c.loop-i.invariant.0),
+      omega (arith, c.in_ok-stretch.ensures.down, c.loop-i.invariant.0),
       subst₂ (λ front s. Stands (below c.args.node) front s (below c.enter.new.self)) (sym more) (sym c.then-whole.ensures) went,
     )
 

@@ -4,11 +4,11 @@ use Rattle.walk.specs.Rows.{row_at}
 use Rattle.kinds.proofs.Stretches.{stands_at, leaf_row}
 use Rattle.kinds.proofs.tree.write_row.Goals as goal
 
-pub returns-in-default : goal.returns-in-default
-returns-in-default g c = let first = c.pick-value.ensures in absurd (c.in-default.ensures.branch _ _ c.loop-cell.invariant.1 first.1)
+pub returns-in_default : goal.returns-in_default
+returns-in_default g c = let first = c.pick-value.ensures in absurd (c.in_default.ensures.branch _ _ c.loop-cell.invariant.1 first.1)
 
-pub label-within-rest-requires : goal.label-within-rest-requires
-label-within-rest-requires g c =
+pub label_within-rest-requires : goal.label_within-rest-requires
+label_within-rest-requires g c =
     let first = c.pick-value.ensures in
     let range = c.in-Some.ensures.branch.only _ first.0 c.loop-cell.invariant.1 first.1 in
     record { from = range.0; to = range.1 }
@@ -25,11 +25,11 @@ loop-cell-preserved g c =
     let left = stands_at stands c.loop-cell.rest range.0 range.1 in
     let inside : i < length tray = omega arith in (
       omega (arith, c.in-Some.ensures.down, c.loop-cell.invariant.0, length-set tray i v),
-      subst (λ k. k < length inner) (sym c.label-within-rest.ensures) left.0,
+      subst (λ k. k < length inner) (sym c.label_within-rest.ensures) left.0,
       c.loop-cell.invariant.2
-          ∙ ap (λ r. take i tray ++ r) (left.1 ∙ ap (λ k. v ∷ row_at inner k) (sym c.label-within-rest.ensures))
+          ∙ ap (λ r. take i tray ++ r) (left.1 ∙ ap (λ k. v ∷ row_at inner k) (sym c.label_within-rest.ensures))
           ∙ sym (append_assoc (take i tray) (v ∷ []) _)
-          ∙ ap (λ front. front ++ row_at inner c.label-within-rest.result) (sym (take_more_set tray i v inside)),
+          ∙ ap (λ front. front ++ row_at inner c.label_within-rest.result) (sym (take_more_set tray i v inside)),
     )
 
 pub returns : goal.returns

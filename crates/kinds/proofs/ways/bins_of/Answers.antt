@@ -10,20 +10,20 @@ pub loop-i-init : goal.loop-i-init
 loop-i-init c =
     let stocks = c.args.stocks.now in
     let none = drop_all _ stocks (omega arith) in
-    (c.ways-of-none-ways.ensures ∙ ap capped_ways (sym none), c.in-ok-bins.ensures.items ∙ ap (λ s. reverse (bins_of s)) (sym none))
+    (c.ways_of_none-ways.ensures ∙ ap capped_ways (sym none), c.in_ok-bins.ensures.items ∙ ap (λ s. reverse (bins_of s)) (sym none))
 
-pub overflow-cast-most : goal.overflow-cast-most
-overflow-cast-most c = omega (arith, (between_at 0 32 c.args.stocks.now (c.loop-i.i - 1) c.requires (omega arith)).1)
+pub overflow_cast-most : goal.overflow_cast-most
+overflow_cast-most c = omega (arith, (between_at 0 32 c.args.stocks.now (c.loop-i.i - 1) c.requires (omega arith)).1)
 
-pub ways-on-ways-requires : goal.ways-on-ways-requires
-ways-on-ways-requires c i lt = subst (λ w. get_or w i 0 ≤ 4294967296) (sym c.loop-i.invariant.0) (ways_few (drop c.loop-i.i c.args.stocks.now) i lt)
+pub ways_on-ways-requires : goal.ways_on-ways-requires
+ways_on-ways-requires c i lt = subst (λ w. get_or w i 0 ≤ 4294967296) (sym c.loop-i.invariant.0) (ways_few (drop c.loop-i.i c.args.stocks.now) i lt)
 
 pub loop-i-preserved : goal.loop-i-preserved
 loop-i-preserved c =
     let stocks = c.args.stocks.now in
     let i = c.loop-i.i in
-    let pushed = chosen _ _ _ _ c.push.ensures.items (ap is_ok c.in-ok-push.was) in (
-      c.ways-on-ways.ensures (drop i stocks) c.loop-i.invariant.0 ∙ ap capped_ways (sym (stocks_more stocks i c.loop-i-test.true c.loop-i.auto.i)),
+    let pushed = chosen _ _ _ _ c.push.ensures.items (ap is_ok c.in_ok-push.was) in (
+      c.ways_on-ways.ensures (drop i stocks) c.loop-i.invariant.0 ∙ ap capped_ways (sym (stocks_more stocks i c.loop-i-test.true c.loop-i.auto.i)),
       pushed
           ∙ ap (λ done. done ++ (record { most = get_or stocks (i - 1) 0; ways = c.loop-i.ways } ∷ [])) c.loop-i.invariant.1
           ∙ bins_more stocks i c.loop-i-test.true c.loop-i.auto.i c.loop-i.ways c.loop-i.invariant.0,

@@ -6,15 +6,15 @@ use Rattle.kinds.specs.WayCounts.{ways_few, stocks_more}
 use Rattle.kinds.proofs.ways.ways_of.Goals as goal
 
 pub loop-i-init : goal.loop-i-init
-loop-i-init c = c.ways-of-none-ways.ensures ∙ ap capped_ways (sym (drop_all _ c.args.stocks.now (omega arith)))
+loop-i-init c = c.ways_of_none-ways.ensures ∙ ap capped_ways (sym (drop_all _ c.args.stocks.now (omega arith)))
 
-pub overflow-cast-stocks : goal.overflow-cast-stocks
-overflow-cast-stocks c = omega (arith, (between_at 0 32 c.args.stocks.now (c.loop-i.i - 1) c.requires (omega arith)).1)
+pub overflow_cast-stocks : goal.overflow_cast-stocks
+overflow_cast-stocks c = omega (arith, (between_at 0 32 c.args.stocks.now (c.loop-i.i - 1) c.requires (omega arith)).1)
 
-pub ways-on-ways-requires : goal.ways-on-ways-requires
-ways-on-ways-requires c i lt = subst (λ w. get_or w i 0 ≤ 4294967296) (sym c.loop-i.invariant) (ways_few (drop c.loop-i.i c.args.stocks.now) i lt)
+pub ways_on-ways-requires : goal.ways_on-ways-requires
+ways_on-ways-requires c i lt = subst (λ w. get_or w i 0 ≤ 4294967296) (sym c.loop-i.invariant) (ways_few (drop c.loop-i.i c.args.stocks.now) i lt)
 
 pub loop-i-preserved : goal.loop-i-preserved
 loop-i-preserved c =
-    c.ways-on-ways.ensures (drop c.loop-i.i c.args.stocks.now) c.loop-i.invariant
+    c.ways_on-ways.ensures (drop c.loop-i.i c.args.stocks.now) c.loop-i.invariant
     ∙ ap capped_ways (sym (stocks_more c.args.stocks.now c.loop-i.i c.loop-i-test.true c.loop-i.auto.i))

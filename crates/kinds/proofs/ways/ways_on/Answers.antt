@@ -7,11 +7,11 @@ pub loop-sum-preserved : goal.loop-sum-preserved
 loop-sum-preserved c =
     let ways = c.loop-sum.ways in
     let at = c.from.result in (
-      length-set ways at c.ways-with.result ∙ c.loop-sum.invariant.0,
+      length-set ways at c.ways_with.result ∙ c.loop-sum.invariant.0,
       below_more _ _ (λ s lt. get_or-set_other ways at s _ 0 (λ e. omega (arith, c.from.ensures)) ∙ c.loop-sum.invariant.1 s lt)
-          (ap (λ k. get_or (set ways k c.ways-with.result) c.loop-sum.sum 0) c.from.ensures
+          (ap (λ k. get_or (set ways k c.ways_with.result) c.loop-sum.sum 0) c.from.ensures
           ∙ get_or-set_same ways c.loop-sum.sum _ 0 (omega (arith, c.loop-sum.invariant.0))
-          ∙ c.ways-with.ensures),
+          ∙ c.ways_with.ensures),
     )
 
 pub returns : goal.returns

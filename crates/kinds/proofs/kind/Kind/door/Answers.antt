@@ -14,22 +14,22 @@ use Rattle.kinds.specs.Bins.{bins_of}
 use Rattle.kinds.specs.declared.shape.Shape.TheVariants.{Door}
 use Rattle.kinds.proofs.kind.Kind.door.Goals as goal
 
-pub returns-in-err-bins : goal.returns-in-err-bins
-returns-in-err-bins c =
+pub returns-in_err-bins : goal.returns-in_err-bins
+returns-in_err-bins c =
     let n = c.args.n in let t = c.args.t in
-    let back = c.from-residual.ensures in
-    let fault = err_from_is_err_and c.from-residual.result back.1 in
+    let back = c.from_residual.ensures in
+    let fault = err_from_is_err_and c.from_residual.result back.1 in
     record {
-      made = fault_goes_on (SumRows (replicate n 1) t) kind_meaning (choice_fits n t) (door n t) (n) true (ways (replicate n 1) t) (door_length n t) c.from-residual.result _ fault.0 fault.1 fault.2 c.in-err-bins.ensures;
-      laws = IfOk-from_err c.from-residual.result _ back.0;
+      made = fault_goes_on (SumRows (replicate n 1) t) kind_meaning (choice_fits n t) (door n t) (n) true (ways (replicate n 1) t) (door_length n t) c.from_residual.result _ fault.0 fault.1 fault.2 c.in_err-bins.ensures;
+      laws = IfOk-from_err c.from_residual.result _ back.0;
     }
 
 pub new-requires : goal.new-requires
 new-requires c =
     let n = c.args.n in let t = c.args.t in
-    let told = c.in-ok-bins.ensures in
+    let told = c.in_ok-bins.ensures in
     let fit = ones_fitting n t told.0 in
-    let bins = vec_items c.in-ok-bins.bins in
+    let bins = vec_items c.in_ok-bins.bins in
     let stocks : List ℕ = replicate n 1 in
     let table = sum_table stocks t bins told.2.0 (omega (arith, fit.n_small, fit.long)) fit.all fit.t_small in
     record { holds = and_from (all_between 1 1 (mosts bins)) _ (ap (all_between 1 1) table.same ∙ between_replicate 1 1 1 n (omega arith) (omega arith)) table.holds; counted = told.2.1 ∙ sym (door_length n t) ∙ ap (λ m. length (door m t)) (sym (ap length table.same ∙ fit.long)); wide = c.from.ensures ∙ sym (table.wide ∙ fit.long) }
@@ -37,13 +37,13 @@ new-requires c =
 pub returns : goal.returns
 returns c =
     let n = c.args.n in let t = c.args.t in
-    let told = c.in-ok-bins.ensures in
+    let told = c.in_ok-bins.ensures in
     let fit = ones_fitting n t told.0 in
-    let bins = vec_items c.in-ok-bins.bins in
+    let bins = vec_items c.in_ok-bins.bins in
     let stocks : List ℕ = replicate n 1 in
     let table = sum_table stocks t bins told.2.0 (omega (arith, fit.n_small, fit.long)) fit.all fit.t_small in
     let same = ap (λ m. door m t) (ap length table.same ∙ fit.long) in
     record {
-      made = walk_of_table (SumRows (replicate n 1) t) kind_meaning (choice_fits n t) (door n t) (n) true (ways (replicate n 1) t) (door_length n t) (c.in-ok-bins.bins, c.in-ok-bins.size) c.new.result (Door c.in-ok-bins.bins t) told c.new.ensures same (table.wide ∙ fit.long) refl;
+      made = walk_of_table (SumRows (replicate n 1) t) kind_meaning (choice_fits n t) (door n t) (n) true (ways (replicate n 1) t) (door_length n t) (c.in_ok-bins.bins, c.in_ok-bins.size) c.new.result (Door c.in_ok-bins.bins t) told c.new.ensures same (table.wide ∙ fit.long) refl;
       laws = subst (λ m. DoorLaws n t m.rows) (sym c.new.ensures) (subst (DoorLaws n t) (sym same) (door_laws n t));
     }

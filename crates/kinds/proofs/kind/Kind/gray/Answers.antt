@@ -11,31 +11,31 @@ use Rattle.kinds.specs.Gray.{gray_length, gray_laws}
 use Rattle.kinds.proofs.MadeTables.{RadixRows, radix_table, radix_count}
 use Rattle.kinds.proofs.kind.Kind.gray.Goals as goal
 
-pub returns-in-err-levels : goal.returns-in-err-levels
-returns-in-err-levels c =
+pub returns-in_err-levels : goal.returns-in_err-levels
+returns-in_err-levels c =
     let n = c.args.n in let list = c.args.list.now in
-    let back = c.from-residual.ensures in
-    let fault = err_from_is_err_and c.from-residual.result back.1 in
+    let back = c.from_residual.ensures in
+    let fault = err_from_is_err_and c.from_residual.result back.1 in
     record {
-      made = fault_goes_on (RadixRows list) kind_meaning (radices_fit n list) (gray list) (n) true (product list) (gray_length list) c.from-residual.result _ fault.0 fault.1 fault.2 c.in-err-levels.ensures;
-      laws = IfOk-from_err c.from-residual.result _ back.0;
+      made = fault_goes_on (RadixRows list) kind_meaning (radices_fit n list) (gray list) (n) true (product list) (gray_length list) c.from_residual.result _ fault.0 fault.1 fault.2 c.in_err-levels.ensures;
+      laws = IfOk-from_err c.from_residual.result _ back.0;
     }
 
 pub new-requires : goal.new-requires
 new-requires c =
     let n = c.args.n in let list = c.args.list.now in
-    let told = c.in-ok-levels.ensures in
-    let levels = vec_items c.in-ok-levels.levels in
+    let told = c.in_ok-levels.ensures in
+    let levels = vec_items c.in_ok-levels.levels in
     let table = radix_table n list levels told.0 told.2.0 in
-    record { holds = table.holds; counted = radix_count true list levels c.in-ok-levels.size table.same told.2.1; wide = table.wide }
+    record { holds = table.holds; counted = radix_count true list levels c.in_ok-levels.size table.same told.2.1; wide = table.wide }
 
 pub returns : goal.returns
 returns c =
     let n = c.args.n in let list = c.args.list.now in
-    let told = c.in-ok-levels.ensures in
-    let table = radix_table n list (vec_items c.in-ok-levels.levels) told.0 told.2.0 in
+    let told = c.in_ok-levels.ensures in
+    let table = radix_table n list (vec_items c.in_ok-levels.levels) told.0 told.2.0 in
     let same = ap gray table.same in
     record {
-      made = walk_of_table (RadixRows list) kind_meaning (radices_fit n list) (gray list) (n) true (product list) (gray_length list) (c.in-ok-levels.levels, c.in-ok-levels.size) c.new.result (Gray c.in-ok-levels.levels) told c.new.ensures same table.width refl;
+      made = walk_of_table (RadixRows list) kind_meaning (radices_fit n list) (gray list) (n) true (product list) (gray_length list) (c.in_ok-levels.levels, c.in_ok-levels.size) c.new.result (Gray c.in_ok-levels.levels) told c.new.ensures same table.width refl;
       laws = subst (λ m. GrayLaws list m.rows) (sym c.new.ensures) (subst (GrayLaws list) (sym same) (gray_laws list));
     }

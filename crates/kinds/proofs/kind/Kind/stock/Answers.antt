@@ -11,22 +11,22 @@ use Rattle.kinds.specs.Bins.{bins_of}
 use Rattle.kinds.specs.declared.shape.Shape.TheVariants.{Stock}
 use Rattle.kinds.proofs.kind.Kind.stock.Goals as goal
 
-pub returns-in-err-bins : goal.returns-in-err-bins
-returns-in-err-bins c =
+pub returns-in_err-bins : goal.returns-in_err-bins
+returns-in_err-bins c =
     let n = c.args.n in let t = c.args.t in let list = c.args.list.now in
-    let back = c.from-residual.ensures in
-    let fault = err_from_is_err_and c.from-residual.result back.1 in
+    let back = c.from_residual.ensures in
+    let fault = err_from_is_err_and c.from_residual.result back.1 in
     record {
-      made = fault_goes_on (SumRows list t) kind_meaning (stocks_fit n t list) (stock list t) (n) false (ways list t) (stock_length list t) c.from-residual.result _ fault.0 fault.1 fault.2 c.in-err-bins.ensures;
-      laws = IfOk-from_err c.from-residual.result _ back.0;
+      made = fault_goes_on (SumRows list t) kind_meaning (stocks_fit n t list) (stock list t) (n) false (ways list t) (stock_length list t) c.from_residual.result _ fault.0 fault.1 fault.2 c.in_err-bins.ensures;
+      laws = IfOk-from_err c.from_residual.result _ back.0;
     }
 
 pub new-requires : goal.new-requires
 new-requires c =
     let n = c.args.n in let t = c.args.t in let list = c.args.list.now in
-    let told = c.in-ok-bins.ensures in
+    let told = c.in_ok-bins.ensures in
     let fit = stocks_fitting n t list told.0 in
-    let bins = vec_items c.in-ok-bins.bins in
+    let bins = vec_items c.in_ok-bins.bins in
     let stocks = list in
     let table = sum_table stocks t bins told.2.0 (omega (arith, fit.n_small, fit.long)) fit.all fit.t_small in
     record { holds = table.holds; counted = told.2.1 ∙ sym (stock_length stocks t) ∙ ap (λ s. length (stock s t)) (sym table.same); wide = sym table.wide }
@@ -34,13 +34,13 @@ new-requires c =
 pub returns : goal.returns
 returns c =
     let n = c.args.n in let t = c.args.t in let list = c.args.list.now in
-    let told = c.in-ok-bins.ensures in
+    let told = c.in_ok-bins.ensures in
     let fit = stocks_fitting n t list told.0 in
-    let bins = vec_items c.in-ok-bins.bins in
+    let bins = vec_items c.in_ok-bins.bins in
     let stocks = list in
     let table = sum_table stocks t bins told.2.0 (omega (arith, fit.n_small, fit.long)) fit.all fit.t_small in
     let same = ap (λ s. stock s t) table.same in
     record {
-      made = walk_of_table (SumRows list t) kind_meaning (stocks_fit n t list) (stock list t) (n) false (ways list t) (stock_length list t) (c.in-ok-bins.bins, c.in-ok-bins.size) c.new.result (Stock c.in-ok-bins.bins t) told c.new.ensures same (table.wide ∙ fit.long) refl;
+      made = walk_of_table (SumRows list t) kind_meaning (stocks_fit n t list) (stock list t) (n) false (ways list t) (stock_length list t) (c.in_ok-bins.bins, c.in_ok-bins.size) c.new.result (Stock c.in_ok-bins.bins t) told c.new.ensures same (table.wide ∙ fit.long) refl;
       laws = subst (λ m. StockLaws list t m.rows) (sym c.new.ensures) (subst (StockLaws list t) (sym same) (stock_laws list t));
     }

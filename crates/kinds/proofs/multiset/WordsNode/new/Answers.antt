@@ -3,13 +3,17 @@ use Rattle.std.proofs.lemmas.List.{take_at}
 use Rattle.kinds.specs.Lists.{words_of}
 use Rattle.kinds.proofs.multiset.WordsNode.new.Goals as goal
 
-pub invariant-of-result : goal.invariant-of-result
-invariant-of-result c =
+pub invariant_of-result : goal.invariant_of-result
+invariant_of-result c =
     let counts = c.args.counts.now in
-    let full = take_at c.copy-from-slice.new.self _ (length counts) (ap length c.copy-from-slice.ensures.after) ∙ c.copy-from-slice.ensures.after in
-    (c.requires.within, (c.total.ensures ∙ ap sum (sym full), (c.requires.known ∙ ap₂ (λ left counts. length (words_of left counts)) (sym c.total.ensures) (sym full), tt)))
+    let full = take_at c.copy_from_slice.new.self _ (length counts) (ap length c.copy_from_slice.ensures.after) ∙ c.copy_from_slice.ensures.after in
+    record {
+      within = c.requires.within;
+      summed = c.total.ensures ∙ ap sum (sym full);
+      known = c.requires.known ∙ ap₂ (λ left counts. length (words_of left counts)) (sym c.total.ensures) (sym full);
+    }
 
 pub returns : goal.returns
 returns c =
     let counts = c.args.counts.now in
-    (c.total.ensures, take_at c.copy-from-slice.new.self _ (length counts) (ap length c.copy-from-slice.ensures.after) ∙ c.copy-from-slice.ensures.after)
+    (c.total.ensures, take_at c.copy_from_slice.new.self _ (length counts) (ap length c.copy_from_slice.ensures.after) ∙ c.copy_from_slice.ensures.after)

@@ -19,13 +19,13 @@ share-from-requires c = record { some = c.requires; part = omega (arith, c.befor
 pub share-count-requires : goal.share-count-requires
 share-count-requires c = record { some = c.requires; part = count_within c.args.self.now c.from-v.result c.if-v-self.false }
 
-pub invariant-of-self : goal.invariant-of-self
-invariant-of-self c =
+pub invariant_of-self : goal.invariant_of-self
+invariant_of-self c =
     let self = c.args.self.now in
     let v = c.from-v.result in
     let has : 0 < get_or self.counts v 0 = omega (arith, c.if-self-v-eq0.false) in
     let entered = node_enters self v c.if-v-self.false c.requires has in
-    (self.within, (node_less self v c.if-v-self.false c.requires has, (c.share-count.ensures ∙ entered.counted, tt)))
+    record { within = self.within; summed = node_less self v c.if-v-self.false c.requires has; known = c.share-count.ensures ∙ entered.counted }
 
 pub returns : goal.returns
 returns c =

@@ -6,11 +6,11 @@ use Rattle.kinds.specs.Fronts.{rest_of, rest_length}
 use Rattle.kinds.specs.MixedRadix.{front, rest_holds, rest_few, before_few, levels_enter, levels_outside}
 use Rattle.kinds.proofs.radix.RadixNodeNode.enter.Goals as goal
 
-pub invariant-of-self : goal.invariant-of-self
-invariant-of-self c =
+pub invariant_of-self : goal.invariant_of-self
+invariant_of-self c =
     let self = c.args.self.now in
     let levels = self.levels.now in
-    (rest_holds levels c.requires self.hold, (rest_few levels 4294967295 c.requires self.hold self.few, tt))
+    record { hold = rest_holds levels c.requires self.hold; few = rest_few levels 4294967295 c.requires self.hold self.few }
 
 pub returns-then-value-radix : goal.returns-then-value-radix
 returns-then-value-radix c =
@@ -20,8 +20,8 @@ returns-then-value-radix c =
       down = tt;
     }
 
-pub overflow-mul-result : goal.overflow-mul-result
-overflow-mul-result c =
+pub overflow_mul-result : goal.overflow_mul-result
+overflow_mul-result c =
     let self = c.args.self.now in
     let levels = self.levels.now in
     let few = before_few levels c.args.value 4294967295 c.requires self.hold c.if-value-radix.false self.few in

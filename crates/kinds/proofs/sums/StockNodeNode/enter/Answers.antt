@@ -24,8 +24,8 @@ returns-then-count-eq0 c =
       down = tt;
     }
 
-pub rows-before-from-requires : goal.rows-before-from-requires
-rows-before-from-requires c =
+pub rows_before-from-requires : goal.rows_before-from-requires
+rows_before-from-requires c =
     let self = c.args.self.now in
     let within : c.args.value ≤ min (front self.bins.now).most self.left = omega (arith, c.min.ensures, c.if-value-min.false) in
     record {
@@ -34,32 +34,30 @@ rows-before-from-requires c =
       few = omega (arith, counts_few self c.requires c.args.value within);
     }
 
-pub invariant-of-self : goal.invariant-of-self
-invariant-of-self c =
+pub invariant_of-self : goal.invariant_of-self
+invariant_of-self c =
     let self = c.args.self.now in
     let bins = self.bins.now in
     let value = c.args.value in
     let within : value ≤ min (front bins).most self.left = omega (arith, c.min.ensures, c.if-value-min.false) in
     let read = ap (λ i. get_or (front bins).ways i 0) c.from.ensures in
-    let count = count_is self c.requires value within in (
-      (first_bin bins c.requires self.hold).rest,
-      (
-        omega (arith, self.small),
-        (
-          rest_few self c.requires value within,
-          (omega (arith, read, count, c.if-count-eq0.false), (rest_ones self c.requires, tt)),
-        ),
-      ),
-    )
+    let count = count_is self c.requires value within in
+    record {
+      hold = (first_bin bins c.requires self.hold).rest;
+      small = omega (arith, self.small);
+      few = rest_few self c.requires value within;
+      some = omega (arith, read, count, c.if-count-eq0.false);
+      ones = rest_ones self c.requires;
+    }
 
-pub overflow-cast-result : goal.overflow-cast-result
-overflow-cast-result c =
+pub overflow_cast-result : goal.overflow_cast-result
+overflow_cast-result c =
     let self = c.args.self.now in
     let within : c.args.value ≤ min (front self.bins.now).most self.left = omega (arith, c.min.ensures, c.if-value-min.false) in
-    omega (arith, c.rows-before-from.ensures, counts_few self c.requires c.args.value within)
+    omega (arith, c.rows_before-from.ensures, counts_few self c.requires c.args.value within)
 
-pub overflow-cast-result-2 : goal.overflow-cast-result-2
-overflow-cast-result-2 c =
+pub overflow_cast-result-2 : goal.overflow_cast-result-2
+overflow_cast-result-2 c =
     let self = c.args.self.now in
     let within : c.args.value ≤ min (front self.bins.now).most self.left = omega (arith, c.min.ensures, c.if-value-min.false) in
     let read = ap (λ i. get_or (front self.bins.now).ways i 0) c.from.ensures in
@@ -74,7 +72,7 @@ returns c =
     let read = ap (λ i. get_or (front bins).ways i 0) c.from.ensures in
     record {
       branch = subst₂ (λ from count. Stands (filled self.reflected (mosts bins) self.left) (value ∷ []) (record { from = from; count = count; backward = self.reflected && odd value }) (filled self.reflected (mosts (rest_of bins)) (self.left - value)))
-          (sym c.rows-before-from.ensures) (sym read)
+          (sym c.rows_before-from.ensures) (sym read)
           (node_enters self c.requires value within);
       down = rest_length bins c.requires;
     }
