@@ -24,19 +24,19 @@ impl KindName {
     pub fn of(word: &[u8]) -> Option<KindName>
         ensures { result ≡ kind_named word.now }
     {
-        if word == b"digits" {
+        if word == b"digits".as_slice() {
             Some(KindName::Digits)
-        } else if word == b"gray" {
+        } else if word == b"gray".as_slice() {
             Some(KindName::Gray)
-        } else if word == b"choose" {
+        } else if word == b"choose".as_slice() {
             Some(KindName::Choose)
-        } else if word == b"door" {
+        } else if word == b"door".as_slice() {
             Some(KindName::Door)
-        } else if word == b"stock" {
+        } else if word == b"stock".as_slice() {
             Some(KindName::Stock)
-        } else if word == b"words" {
+        } else if word == b"words".as_slice() {
             Some(KindName::Words)
-        } else if word == b"changes" {
+        } else if word == b"changes".as_slice() {
             Some(KindName::Changes)
         } else {
             None

@@ -28,7 +28,7 @@ fn t_number(taken: bool, t: &[u8]) -> Option<u16>
 {
     if taken {
         number(t)
-    } else if t == b"-" {
+    } else if t == b"-".as_slice() {
         Some(0)
     } else {
         None
@@ -40,7 +40,7 @@ fn list_entries(taken: bool, list: &[u8]) -> Option<Pieces<'_>>
 {
     if taken {
         Some(Pieces::new(list, b' '))
-    } else if list == b"-" {
+    } else if list == b"-".as_slice() {
         Some(Pieces::none())
     } else {
         None

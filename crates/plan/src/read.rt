@@ -23,7 +23,7 @@ pub fn read(heap: Global, text: &[u8]) -> Result<Plan, PlanFault>
             line: 0,
         });
     };
-    if lines.names.bytes != b"kind,n,t,list" {
+    if lines.names.bytes != b"kind,n,t,list".as_slice() {
         return Err(lines.names.fault(Cause::Names));
     }
     let mut parts = make_parts(heap, lines.parts)?.into_iter();

@@ -51,7 +51,7 @@ parts-preserved c =
           (coming c.next.new.self)
           comes
           part
-          c.in_ok-push-2.ensures.items,
+          c.in_ok-push-in-Ok.ensures.items,
     )
 
 pub returns-in-None-fault : goal.returns-in-None-fault

@@ -12,23 +12,23 @@ use Rattle.plan.proofs.read.read.Goals as goal
 
 pub returns-then-ne : goal.returns-then-ne
 returns-then-ne c =
-    inl (plan_other_names c.args.text.now _ c.in-Some.ensures.parts (same_from_ne _ (codes "kind,n,t,list") c.ne.result false c.ne.ensures c.if-ne.true)
+    inl (plan_other_names c.args.text.now _ c.in-Some.ensures.parts (same_from_ne _ _ (codes "kind,n,t,list") c.ne.result false c.ne.ensures c.as_slice.ensures c.if-ne.true)
     ∙ ap Err (sym (c.fault.ensures ∙ ap (λ line. lined Names line) c.in-Some.ensures.placed)))
 
 pub returns-in_err-make_parts : goal.returns-in_err-make_parts
 returns-in_err-make_parts c =
     let fault = err_from_is_err_and c.from_residual.result c.from_residual.ensures.1 in
-    plan_part_fault c.args.text.now _ c.in-Some.ensures.parts plan_meaning (same_from_ne _ (codes "kind,n,t,list") c.ne.result true c.ne.ensures c.if-ne.false)
+    plan_part_fault c.args.text.now _ c.in-Some.ensures.parts plan_meaning (same_from_ne _ _ (codes "kind,n,t,list") c.ne.result true c.ne.ensures c.as_slice.ensures c.if-ne.false)
     c.from_residual.result _ fault.0 fault.1 fault.2 c.in_err-make_parts.ensures
 
 pub returns : goal.returns
 returns c =
-    let one = next_is kind_meaning _ _ _ _ c.next.result (c.into-iter-parts.ensures.len ∙ c.in_ok-make_parts.field-0.ok.0 ∙ ap length (sym c.into-iter-parts.ensures.rest)) c.next.ensures.items (ltb_from_iff c.next.ensures.variant) c.next.ensures.len in
+    let one = next_is kind_meaning _ _ _ _ c.next.result (c.into_iter-parts.ensures.len ∙ c.in_ok-make_parts.field-0.ok.0 ∙ ap length (sym c.into_iter-parts.ensures.rest)) c.next.ensures.items (ltb_from_iff c.next.ensures.variant) c.next.ensures.len in
     let two = next_is kind_meaning _ _ _ _ c.next-2.result one.long c.next-2.ensures.items (ltb_from_iff c.next-2.ensures.variant) c.next-2.ensures.len in
     let three = next_is kind_meaning _ _ _ _ c.next-3.result two.long c.next-3.ensures.items (ltb_from_iff c.next-3.ensures.variant) c.next-3.ensures.len in
     joins_given plan_meaning c.join_parts.result _
     (c.join_parts.ensures
-    ∙ three_drawn kind_meaning c.into-iter-parts.result.rest.items _ _ _ _ _ _ _ _ one.others two.others c.in_ok-first.ensures one.first c.in_ok-second.ensures two.first c.in_ok-third.ensures three.first
-    ∙ ap (λ items. all_joined (map kind_meaning items)) c.into-iter-parts.ensures.rest
-    ∙ sym (plan_of_parts c.args.text.now _ c.in-Some.ensures.parts (same_from_ne _ (codes "kind,n,t,list") c.ne.result true c.ne.ensures c.if-ne.false)
+    ∙ three_drawn kind_meaning c.into_iter-parts.result.rest.items _ _ _ _ _ _ _ _ one.others two.others c.in_ok-first.ensures one.first c.in_ok-second.ensures two.first c.in_ok-third.ensures three.first
+    ∙ ap (λ items. all_joined (map kind_meaning items)) c.into_iter-parts.ensures.rest
+    ∙ sym (plan_of_parts c.args.text.now _ c.in-Some.ensures.parts (same_from_ne _ _ (codes "kind,n,t,list") c.ne.result true c.ne.ensures c.as_slice.ensures c.if-ne.false)
     ∙ ap (λ made. then made all_joined) c.in_ok-make_parts.ensures))
