@@ -1,5 +1,5 @@
 -- The numbers by which faults of a plan text are told, and the layers that find them. Assumes nothing.
-use Rattle.std.specs.Prelude.{ℕ, Some, None, Option}
+use Rattle.std.specs.Prelude.{ℕ, Some, Option}
 use Rattle.walk.specs.Making.{making_number}
 use Rattle.joins.specs.Fault.{join_number}
 use Rattle.faults.specs.declared.PartFault.TheVariants.{Form, Making}

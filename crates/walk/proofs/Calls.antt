@@ -1,11 +1,11 @@
 -- What follows from the answers of a walk's calls. Assumes nothing.
-use Rattle.std.proofs.Common.{◌≡◌, ℕ, zero, suc, ◌+◌, ◌-◌, ◌<◌, ◌≤◌, Bool, true, false, cond, eqb, ltb, List, [], ◌∷◌, ◌++◌, length, take, drop, is_ok, Ok, Err, Result, sym, refl, ap, ◌∙◌, subst, ap₂, arith}
+use Rattle.std.proofs.Common.{◌≡◌, ℕ, ◌+◌, ◌-◌, ◌<◌, ◌≤◌, Bool, true, false, cond, eqb, ltb, List, length, take, drop, is_ok, Ok, Err, Result, sym, refl, ap, ◌∙◌, subst, ap₂, arith}
 use Rattle.std.proofs.lemmas.List.{take_at}
-use Rattle.std.proofs.lemmas.Bool.{ltb-true, ltb-false, le-ltb, lt-ltb, ne_eqb, cases_Bool, cond-true, cond-false}
+use Rattle.std.proofs.lemmas.Bool.{ltb-true, le-ltb, ne_eqb, cond-true, cond-false}
 use Rattle.walk.specs.Meaning.{Meaning, Lawful, size, row, standing}
 use Rattle.walk.specs.Answers.{seeks, after_seek, after_back, reads, after_read, span_of, changes}
 use Rattle.walk.specs.declared.answers.Refusal.{Refusal}
-use Rattle.walk.specs.declared.answers.Refusal.TheVariants.{NoSuchLabel, ShortTray}
+use Rattle.walk.specs.declared.answers.Refusal.TheVariants.{NoSuchLabel}
 use Rattle.walk.specs.declared.answers.Span.{Span}
 
 -- `read` accepts a tray that is long enough where there are rows

@@ -1,5 +1,5 @@
 -- What each call of a walk answers, and what it leaves. Assumes nothing.
-use Rattle.std.specs.Prelude.{ℕ, ◌+◌, ◌-◌, Bool, true, false, cond, List, ◌++◌, drop, is_ok, Ok, Err, Result, ◌==◌, nat_lt}
+use Rattle.std.specs.Prelude.{ℕ, ◌+◌, ◌-◌, cond, List, ◌++◌, drop, is_ok, Ok, Err, Result, ◌==◌, nat_lt}
 use Rattle.std.specs.Option.{ok_or}
 use Rattle.walk.specs.Rows.{Row, label_of, lowest, highest}
 use Rattle.walk.specs.Meaning.{Meaning, size, row, standing}
