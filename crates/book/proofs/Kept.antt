@@ -1,6 +1,6 @@
 -- What ties a book's state to its history.
 use Rattle.std.proofs.Common.{◌≡◌, ℕ, zero, suc, ◌+◌, ◌-◌, ◌<◌, ◌≤◌, Bool, true, false, cond, not, ◌&&◌, eqb, List, [], ◌∷◌, ◌++◌, map, length, get_or, Some, None, sum_by, count_by, filter, Option, sym, refl, ap, ◌∙◌, subst, ⊎_elim, arith}
-use Rattle.std.specs.List.{range_with_len, AllByRecursion as All}
+use Rattle.std.specs.List.{range_with_len, AllByRecursion}
 use Rattle.std.proofs.lemmas.List.FromFn.{length-range_with_len, length-map-range_with_len, get_or-map-range_with_len}
 use Rattle.std.proofs.ByRecursion.{All-get_or}
 use Rattle.std.proofs.lemmas.List.Sums.{sum_by-cons}
@@ -28,9 +28,9 @@ pub record Kept (m : Meaning) (k : ℕ) (h : List Move) (s : State) : Type 0 whe
   -- every row is in one place
   pub once : (l : ℕ) → l < size m → on_bench m h l + in_hands k h l + one_if (waits h l) + one_if (undrawn h l) ≡ 1
   -- and nothing else is anywhere
-  pub listed : All (Listed m.rows) (bench h)
+  pub listed : AllByRecursion (Listed m.rows) (bench h)
   pub held : (i l : ℕ) → hand h i ≡ Some l → (i < k) × (l < size m)
-  pub queued : All (λ l. l < size m) (queue h)
+  pub queued : AllByRecursion (λ l. l < size m) (queue h)
   pub waits_queued : (l : ℕ) → count_by (λ q. eqb q l) (queue h) ≡ one_if (waits h l)
   -- a printer's lane goes on behind the last label that it drew from the front
   pub fronts : (i l : ℕ) → i < k → last_front (size m) k h i ≡ Some l → (lane_at s.lanes i).next ≡ l + 1

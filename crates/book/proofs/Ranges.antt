@@ -1,6 +1,6 @@
 -- Ranges of labels from which labels are taken away.
 use Rattle.std.proofs.Common.{◌≡◌, ℕ, zero, suc, ◌+◌, ◌-◌, ◌<◌, ◌≤◌, Bool, true, false, cond, not, ◌&&◌, eqb, List, [], ◌∷◌, ◌++◌, length, filter, sym, refl, ap, ◌∙◌, subst, ⊎_elim, add-one, arith}
-use Rattle.std.specs.List.{range_with_len, AllByRecursion as All}
+use Rattle.std.specs.List.{range_with_len, AllByRecursion}
 use Rattle.std.proofs.lemmas.List.Elements.{filter-append}
 use Rattle.std.proofs.lemmas.List.{append-nil}
 use Rattle.std.proofs.lemmas.Bool.{eqb-true, eq-eqb, ne_eqb, cases_eq, cond-true, cond-false}
@@ -23,7 +23,7 @@ kept_by_both p q (x ∷ xs) = step (p x) (q x) refl (kept_by_both p q xs)
     step false false t e = e
 
 -- where every element passes, all are kept
-pub kept_all : (p : ℕ → Bool) (xs : List ℕ) → All (λ x. p x ≡ true) xs → filter p xs ≡ xs
+pub kept_all : (p : ℕ → Bool) (xs : List ℕ) → AllByRecursion (λ x. p x ≡ true) xs → filter p xs ≡ xs
 kept_all p [] all = refl
 kept_all p (x ∷ xs) (here, all) = cond-true (p x) (x ∷ filter p xs) (filter p xs) here ∙ ap (λ (ys : List ℕ). x ∷ ys) (kept_all p xs all)
 

@@ -1,6 +1,6 @@
 -- What a book in its state answers is what the rules say of its history.
 use Rattle.std.proofs.Common.{◌≡◌, ℕ, zero, suc, ◌+◌, ◌-◌, ◌<◌, ◌≤◌, Bool, true, false, cond, not, ◌&&◌, eqb, ltb, ◌⊎◌, List, [], ◌∷◌, ◌++◌, map, reverse, length, get_or, drop, is_some, Some, None, Ok, Err, sum_by, count_by, filter, Option, Result, sym, refl, ap, ◌∙◌, subst, inl, inr, ⊎_elim, add-one, arith}
-use Rattle.std.specs.List.{range_with_len, AllByRecursion as All}
+use Rattle.std.specs.List.{range_with_len, AllByRecursion}
 use Rattle.std.specs.Option.{ok_or, option_or, option_map}
 use Rattle.std.specs.Result as results
 use Rattle.std.proofs.lemmas.List.FromFn.{length-range_with_len, fill_by_all}
@@ -100,7 +100,7 @@ module _ {m : Meaning} {k : ℕ} {h : List Move} {s : State} (kept : Kept m k h 
 
   -- a label that is drawn is one of the walk's
   pub drawn_below : (i : ℕ) (d : Draw) → i < k → Drew s.waiting s.lanes i d → d.label < size m
-  drawn_below i d known (oldest rest e from) = (subst (All (λ x. x < size m)) (sym kept.waiting ∙ e) kept.queued).0
+  drawn_below i d known (oldest rest e from) = (subst (AllByRecursion (λ x. x < size m)) (sym kept.waiting ∙ e) kept.queued).0
   drawn_below i d known (first e some label from) =
       omega (arith, label, (left_in_lane kept i (lane_at s.lanes i).next known (omega arith) (omega arith)).1, start_le (size m) k (i + 1) (omega arith) (omega arith))
   drawn_below i d known (last e none some label from) =

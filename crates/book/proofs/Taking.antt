@@ -1,6 +1,6 @@
 -- What an accepted take leaves of the ties between a book's state and its history.
 use Rattle.std.proofs.Common.{◌≡◌, ℕ, zero, suc, ◌+◌, ◌-◌, ◌<◌, ◌≤◌, Bool, true, false, cond, not, ◌&&◌, eqb, ltb, ◌⊎◌, List, [], ◌∷◌, ◌++◌, map, length, get_or, drop, set, Some, None, sum_by, count_by, filter, Option, sym, refl, ap, ◌∙◌, subst, inl, inr, ⊎_elim, le_trans, add-zero, add-one, arith}
-use Rattle.std.specs.List.{range_with_len, AllByRecursion as All}
+use Rattle.std.specs.List.{range_with_len, AllByRecursion}
 use Rattle.std.proofs.lemmas.List.FromFn.{length-range_with_len, get_or-range_with_len}
 use Rattle.std.proofs.ByRecursion.{all_kept_by, kept_by_passes, All-get_or}
 use Rattle.std.proofs.lemmas.List.{get_or-set_same, get_or-set_other, length-set}
@@ -73,16 +73,16 @@ module _ {m : Meaning} {k : ℕ} {h : List Move} {s : State} (kept : Kept m k h 
       let below : x - (lane_at s.lanes j).next < left (lane_at s.lanes j) = omega arith in
       subst Here (get_or-range_with_len (lane_at s.lanes j).next (left (lane_at s.lanes j)) (x - (lane_at s.lanes j).next) 0 below ∙ place)
       (All-get_or Here (range_with_len (lane_at s.lanes j).next (left (lane_at s.lanes j))) (x - (lane_at s.lanes j).next) 0
-      (omega (arith, length-range_with_len (lane_at s.lanes j).next (left (lane_at s.lanes j)))) (subst (All Here) (kept.lanes j known) all))
+      (omega (arith, length-range_with_len (lane_at s.lanes j).next (left (lane_at s.lanes j)))) (subst (AllByRecursion Here) (kept.lanes j known) all))
     where
       Here : ℕ → Type 0
       Here y = (lane_start (size m) k j ≤ y) × (y < lane_start (size m) k (j + 1)) × (undrawn h y ≡ true)
 
-      both : (ys : List ℕ) → All (λ y. (lane_start (size m) k j ≤ y) × (y < lane_start (size m) k (j + 1))) ys → All (λ y. undrawn h y ≡ true) ys → All Here ys
+      both : (ys : List ℕ) → AllByRecursion (λ y. (lane_start (size m) k j ≤ y) × (y < lane_start (size m) k (j + 1))) ys → AllByRecursion (λ y. undrawn h y ≡ true) ys → AllByRecursion Here ys
       both [] a b = tt
       both (y ∷ ys) (a, more) (b, rest) = ((a.0, a.1, b), both ys more rest)
 
-      all : All Here (lane_left (size m) k h j)
+      all : AllByRecursion Here (lane_left (size m) k h j)
       all = both (lane_left (size m) k h j)
           (all_kept_by (undrawn h) _ (lane_labels (size m) k j) (all_counting _ _ _ (λ y low high. (low, omega arith))))
           (kept_by_passes (undrawn h) (lane_labels (size m) k j))
@@ -195,7 +195,7 @@ module _ {m : Meaning} {k : ℕ} {h : List Move} {s : State} (kept : Kept m k h 
           ∙ ap (λ n. n + count_by (λ q. eqb q l) rest) (ap one_if (eq-eqb l l refl))
 
       below : l < size m
-      below = (subst (All (λ x. x < size m)) (sym kept.waiting ∙ e) kept.queued).0
+      below = (subst (AllByRecursion (λ x. x < size m)) (sym kept.waiting ∙ e) kept.queued).0
 
       alone : one_if (waits h l) + one_if (undrawn h l) ≡ 1
       alone = omega (arith, kept.once l below, count)

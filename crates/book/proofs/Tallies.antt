@@ -1,6 +1,6 @@
 -- Counting over lists and ranges.
 use Rattle.std.proofs.Common.{◌≡◌, ℕ, zero, suc, ◌+◌, ◌-◌, ◌*◌, ◌<◌, ◌≤◌, Bool, true, false, cond, not, ◌&&◌, eqb, List, [], ◌∷◌, ◌++◌, map, length, get_or, sum_by, count_by, filter, sym, refl, ap, ◌∙◌, subst, ⊎_elim, add-zero, suc-add, zero-add, arith}
-use Rattle.std.specs.List.{range_with_len, AllByRecursion as All}
+use Rattle.std.specs.List.{range_with_len, AllByRecursion}
 use Rattle.std.proofs.lemmas.List.FromFn.{length-range_with_len, get_or-range_with_len}
 use Rattle.std.proofs.lemmas.List.Sums.{sum_by-cons, get_or-le-sum_by}
 use Rattle.std.proofs.lemmas.Bool.{eqb-true, eq-eqb, ne_eqb, cases_eq}
@@ -14,7 +14,7 @@ module _ {X : Type 0} where
       omega (arith, sum_by-cons (λ x. f x + g x) x xs, sum_by-cons f x xs, sum_by-cons g x xs, sum_by_plus f g xs)
 
   -- equal terms give equal sums
-  pub sum_by_same : (f g : X → ℕ) (xs : List X) → All (λ x. f x ≡ g x) xs → sum_by f xs ≡ sum_by g xs
+  pub sum_by_same : (f g : X → ℕ) (xs : List X) → AllByRecursion (λ x. f x ≡ g x) xs → sum_by f xs ≡ sum_by g xs
   sum_by_same f g [] same = refl
   sum_by_same f g (x ∷ xs) (here, same) = omega (arith, sum_by-cons f x xs, sum_by-cons g x xs, sum_by_same f g xs same)
 
@@ -34,12 +34,12 @@ counted_either_way {X = X} p xs (y ∷ ys) =
     let both = sum_by_plus (λ x. one_if (p x y)) (λ x. count_by (p x) ys) xs in
     omega (arith, apart, both, counted_either_way p xs ys, sum_by-cons (λ y. count_by (λ x. p x y) xs) y ys)
   where
-    each : (xs : List X) → All (λ x. count_by (p x) (y ∷ ys) ≡ one_if (p x y) + count_by (p x) ys) xs
+    each : (xs : List X) → AllByRecursion (λ x. count_by (p x) (y ∷ ys) ≡ one_if (p x y) + count_by (p x) ys) xs
     each [] = tt
     each (x ∷ xs) = (sum_by-cons (λ y. one_if (p x y)) y ys, each xs)
 
 -- what holds of every number of a range holds of the list of them
-pub all_counting : (P : ℕ → Type 0) (a n : ℕ) → ((x : ℕ) → a ≤ x → x < a + n → P x) → All P (range_with_len a n)
+pub all_counting : (P : ℕ → Type 0) (a n : ℕ) → ((x : ℕ) → a ≤ x → x < a + n → P x) → AllByRecursion P (range_with_len a n)
 all_counting P a zero each = tt
 all_counting P a (suc n) each = (each a (omega arith) (omega arith), all_counting P (a + 1) n (λ x low high. each x (omega arith) (omega arith)))
 

@@ -1,6 +1,6 @@
 -- The theorem on a book's whole life.
 use Rattle.std.proofs.Common.{◌≡◌, ℕ, zero, suc, ◌+◌, ◌-◌, ◌<◌, ◌≤◌, Bool, true, false, cond, not, ◌&&◌, eqb, ltb, leb, ◌⊎◌, List, [], ◌∷◌, ◌++◌, map, length, get_or, is_some, Some, None, Ok, Err, sum_by, count_by, Option, sym, refl, ap, ◌∙◌, subst, inl, inr, ⊎_elim, arith}
-use Rattle.std.specs.List.{range_with_len, AllByRecursion as All}
+use Rattle.std.specs.List.{range_with_len, AllByRecursion}
 use Rattle.std.specs.Option.{option_map}
 use Rattle.std.proofs.lemmas.List.FromFn.{length-range_with_len, length-map-range_with_len}
 use Rattle.std.proofs.lemmas.List.{nil_from_length}
@@ -46,7 +46,7 @@ equal_from_differences (x ∷ xs) (y ∷ ys) e =
     (cases_eq x y)
 
 -- what is counted in a list is there
-counted_there : (P : ℕ → Type 0) (l : ℕ) (xs : List ℕ) → 1 ≤ count_by (λ q. eqb q l) xs → All P xs → P l
+counted_there : (P : ℕ → Type 0) (l : ℕ) (xs : List ℕ) → 1 ≤ count_by (λ q. eqb q l) xs → AllByRecursion P xs → P l
 counted_there P l [] some all = absurd (omega arith)
 counted_there P l (q ∷ qs) some (here, all) =
     ⊎_elim

@@ -1,6 +1,6 @@
 -- What holds of a book over its whole life, whatever is called. Assumes nothing.
 use Rattle.std.specs.Prelude.{◌≡◌, ℕ, ◌+◌, ◌<◌, ◌≤◌, Bool, true, false, cond, List, length, Some, None, sum_by, count_by, Option, ◌==◌, nat_eq}
-use Rattle.std.specs.List.{range_with_len, AllByRecursion as All}
+use Rattle.std.specs.List.{range_with_len, AllByRecursion}
 use Rattle.walk.specs.Meaning.{Meaning, size}
 use Rattle.walk.specs.Meaning as meaning
 use Rattle.walk.specs.Rows.{Row, Listed, same_row, differences}
@@ -39,7 +39,7 @@ in_lanes n k h l = sum_by (λ i. count_by (λ x. nat_eq x l) (lane_left n k h i)
 
 -- the bench holds every row of the walk exactly once, and nothing else
 abbrev pub Complete : Meaning → List Row → Type 0
-Complete m rows = ((l : ℕ) → l < size m → count_by (same_row (meaning.row m l)) rows ≡ 1) × All (Listed m.rows) rows
+Complete m rows = ((l : ℕ) → l < size m → count_by (same_row (meaning.row m l)) rows ≡ 1) × AllByRecursion (Listed m.rows) rows
 
 -- What holds after the moves h, on the walk m with k printers, where `says` tells what each call would answer next.
 pub record Life (m : Meaning) (k : ℕ) (h : List Move) (says : Call → Answer) : Type 0 where
@@ -50,7 +50,7 @@ pub record Life (m : Meaning) (k : ℕ) (h : List Move) (says : Call → Answer)
   -- every row is in exactly one place, and there once: bench, a hand, waiting, or undrawn in a lane
   pub in_one_place : (l : ℕ) → l < size m → on_bench m h l + in_hands k h l + one_if (waits h l) + in_lanes (size m) k h l ≡ 1
   -- and nothing else is anywhere
-  pub only_rows_on_bench : All (Listed m.rows) (bench h)
+  pub only_rows_on_bench : AllByRecursion (Listed m.rows) (bench h)
   pub only_labels_in_hands : (i l : ℕ) → hand h i ≡ Some l → (i < k) × (l < size m)
   pub only_labels_wait : (l : ℕ) → waits h l ≡ true → l < size m
   -- `counts` answers these totals
@@ -64,6 +64,6 @@ pub record Life (m : Meaning) (k : ℕ) (h : List Move) (says : Call → Answer)
       says (Take i tray) ≡ shown l' tray' →
       (1 ≤ differences (meaning.row m l) (meaning.row m l')) × (differences (meaning.row m l) (meaning.row m l') ≤ 2)
 
--- All of it holds after every list of calls, refused ones included.
+-- AllByRecursion of it holds after every list of calls, refused ones included.
 abbrev pub WholeLife : State → Type 0
 WholeLife s = (calls : List Call) → Life s.walk (printers s) (moves (history s calls)) (answer (state_after s calls))

@@ -62,14 +62,14 @@ pub fn holds<W: Walk>(walk: &mut W, claim: &[u8]) -> bool {
     let (Some(subject), Some(values)) = (parts.next(), parts.next()) else {
         return false;
     };
-    if subject == b"none" {
+    if subject == b"none".as_slice() {
         return row_is_none(walk, values).unwrap_or(false);
     }
-    if subject == b"size" {
+    if subject == b"size".as_slice() {
         return number(values) == Some(walk.size());
     }
-    if subject == b"steady" {
-        return walk.steady() == (values == b"yes");
+    if subject == b"steady".as_slice() {
+        return walk.steady() == (values == b"yes".as_slice());
     }
     match number(subject) {
         Some(label) => row_is(walk, label, values).unwrap_or(false),

@@ -2,7 +2,7 @@
 use Rattle.std.proofs.Common.{◌≡◌, ℕ, zero, suc, ◌<◌, List, [], ◌∷◌, length, get_or, take, drop, sym, refl, ap, ◌∙◌, subst, ⊎_elim, arith, eq-eqb, ne_eqb}
 use Rattle.std.proofs.lemmas.Bool.{cases_eq, cond-true, cond-false}
 use Rattle.std.specs.Str.Iter.{LacksByte}
-use Rattle.std.specs.List.{join_with_byte, AllByRecursion as All}
+use Rattle.std.specs.List.{join_with_byte, AllByRecursion}
 use Rattle.text.specs.Pieces.{grown, pieces, PiecesLaws}
 
 -- none of the first n bytes is `at`
@@ -34,7 +34,7 @@ lacks_more at b p other clear zero h e = other e
 lacks_more at b p other clear (suc k) h e = clear k (omega arith) e
 
 -- another byte before the first piece leaves the pieces clear
-clear_grown : (at b : ℕ) (ps : List (List ℕ)) → (b ≡ at → ⊥) → All (LacksByte at) ps → All (LacksByte at) (grown b ps)
+clear_grown : (at b : ℕ) (ps : List (List ℕ)) → (b ≡ at → ⊥) → AllByRecursion (LacksByte at) ps → AllByRecursion (LacksByte at) (grown b ps)
 clear_grown at b [] other clear = (lacks_more at b [] other (λ k h. absurd (omega arith)), tt)
 clear_grown at b (p ∷ ps) other clear = (lacks_more at b p other clear.0, clear.1)
 

@@ -1,7 +1,7 @@
 -- The pieces of a list of bytes between the occurrences of a byte. Assumes nothing.
 use Rattle.std.specs.Prelude.{◌≡◌, ℕ, ◌<◌, cond, List, [], ◌∷◌, length, ◌==◌}
 use Rattle.std.specs.Str.Iter.{LacksByte}
-use Rattle.std.specs.List.{join_with_byte, AllByRecursion as All}
+use Rattle.std.specs.List.{join_with_byte, AllByRecursion}
 
 -- b before the first piece
 abbrev pub grown : ℕ → List (List ℕ) → List (List ℕ)
@@ -16,5 +16,5 @@ pieces at (b ∷ bs) = cond (b == at) ([] ∷ pieces at bs) (grown b (pieces at 
 -- there are pieces, each without the byte, and with the byte between each two they are the list again
 pub record PiecesLaws (at : ℕ) (bs : List ℕ) (ps : List (List ℕ)) : Type 0 where
   pub some : 0 < length ps
-  pub clear : All (LacksByte at) ps
+  pub clear : AllByRecursion (LacksByte at) ps
   pub whole : join_with_byte at ps ≡ bs

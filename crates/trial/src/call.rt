@@ -2,7 +2,7 @@
 ghost use Rattle.std.specs.Prelude.{◌≡◌, vec_items};
 ghost use Rattle.text.specs.Coming.{coming};
 ghost use Rattle.trial.specs.Calls.{lone_number, printers_of, print_of, call_of, meant, Reads};
-ghost use Rattle.trial.specs.Calls.{scanned as row-scanned, bare as call-bare};
+ghost use Rattle.trial.specs.Calls.{scanned as row_scanned, bare as call_bare};
 ghost use Rattle.trial.specs.declared.call.NoCall.TheVariants.{NoMemory};
 
 use super::number::{number, value};
@@ -52,7 +52,7 @@ pub(crate) fn printers(line: &[u8]) -> Option<u32>
     ensures { result ≡ printers_of line.now }
 {
     let mut fields = Pieces::new(line, b' ');
-    if fields.next()? != b"open" {
+    if fields.next()? != b"open".as_slice() {
         return None;
     }
     lone_number(fields)
@@ -60,7 +60,7 @@ pub(crate) fn printers(line: &[u8]) -> Option<u32>
 
 // The row of all the values to come.
 fn scanned(heap: Global, fields: Pieces<'_>) -> Result<Vec<u8>, NoCall>
-    ensures { Reads vec_items result (row-scanned (coming fields.entry)) }
+    ensures { Reads vec_items result (row_scanned (coming fields.entry)) }
 {
     let mut row = Vec::new(heap);
     for field in fields {
@@ -80,7 +80,7 @@ fn printed(heap: Global, mut fields: Pieces<'_>) -> Result<Call, NoCall>
 
 // The call, where no field is to come.
 fn bare(call: Call, mut fields: Pieces<'_>) -> Result<Call, NoCall>
-    ensures { Reads meant result (call-bare (meant call) (coming fields.entry)) }
+    ensures { Reads meant result (call_bare (meant call) (coming fields.entry)) }
 {
     match fields.next() {
         Some(_) => Err(NoCall::Unknown),

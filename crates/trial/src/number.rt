@@ -1,11 +1,11 @@
 // Numbers as a call writes them.
 ghost use Rattle.std.specs.Prelude.{◌≡◌};
 ghost use Rattle.trial.specs.Numbers.{number_of, value_of, WrittenAs};
-ghost use Rattle.trial.specs.Numbers.{behind as one-behind, folded as all-behind};
+ghost use Rattle.trial.specs.Numbers.{behind as one_behind, folded as all_behind};
 
 // The value with one digit more behind it.
 fn behind(value: u32, digit: u8) -> Option<u32>
-    ensures { result ≡ one-behind value digit }
+    ensures { result ≡ one_behind value digit }
 {
     match digit {
         b'0'..=b'9' => value.checked_mul(10)?.checked_add(u32::from(digit - b'0')),
@@ -15,7 +15,7 @@ fn behind(value: u32, digit: u8) -> Option<u32>
 
 // The value of some digits.
 fn folded(digits: &[u8]) -> Option<u32>
-    ensures { result ≡ all-behind 0 digits.now }
+    ensures { result ≡ all_behind 0 digits.now }
 {
     let mut value = 0;
     for digit in digits {

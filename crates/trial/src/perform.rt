@@ -1,12 +1,12 @@
 // Calls, made on a book.
 ghost use Rattle.std.specs.Prelude.{◌≡◌, ◌≤◌, IfOk, OnOk};
 ghost use Rattle.book.specs.Histories.{answer, after};
-ghost use Rattle.book.specs.Histories.{numbered as number-answer, showing as shown-answer};
+ghost use Rattle.book.specs.Histories.{numbered as number_answer, showing as shown_answer};
 ghost use Rattle.book.specs.State.{state};
 ghost use Rattle.trial.specs.Answers.{answer_text, told};
 ghost use Rattle.trial.specs.Calls.{call_of, meant};
 ghost use Rattle.trial.specs.Lines.{left_by};
-ghost use Rattle.trial.specs.Lines.{answered as line-answered};
+ghost use Rattle.trial.specs.Lines.{answered as line_answered};
 
 use super::answer::Answer;
 use super::call::{Call, NoCall};
@@ -17,7 +17,7 @@ use walk::Walk;
 
 // A number, or why there is none.
 fn numbered(res: Result<u32, BookRefusal>) -> Answer
-    ensures { answer_text result ≡ told 0 (number-answer res) }
+    ensures { answer_text result ≡ told 0 (number_answer res) }
 {
     match res {
         Ok(number) => Answer::Number(number),
@@ -33,7 +33,7 @@ fn showing(
     width: usize,
 ) -> Result<Answer, AllocError>
     requires narrow { width ≤ 64 }
-    ensures { IfOk result (λ a. answer_text a ≡ told width (shown-answer res tray.now)) }
+    ensures { IfOk result (λ a. answer_text a ≡ told width (shown_answer res tray.now)) }
 {
     match res {
         Ok(label) => Ok(Answer::Shown(label, Vec::from_slice(heap, &tray[0..width])?)),
@@ -78,7 +78,7 @@ pub(crate) fn answered<W: Walk>(
     line: &[u8],
 ) -> Result<Answer, AllocError>
     requires narrow { width ≤ 64 }
-    ensures answer { IfOk result (λ a. answer_text a ≡ line-answered width (state W.Walk.meaning book.old) (call_of line.now)) }
+    ensures answer { IfOk result (λ a. answer_text a ≡ line_answered width (state W.Walk.meaning book.old) (call_of line.now)) }
     ensures after { OnOk result (state W.Walk.meaning book.new ≡ left_by (state W.Walk.meaning book.old) (call_of line.now)) }
 {
     match Call::of(heap, line) {
