@@ -3,4 +3,3 @@ pub mod Openings
 pub mod Scans
 pub mod Texts
 pub mod Values
-pub mod Verbs

@@ -17,7 +17,7 @@ fn opens(text: &[u8]) -> bool
         return false;
     };
     match Pieces::new(line, b' ').next() {
-        Some(word) => word == b"open",
+        Some(word) => word == b"open".as_slice(),
         None => false,
     }
 }

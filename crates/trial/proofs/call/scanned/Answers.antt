@@ -6,7 +6,7 @@ use Rattle.trial.proofs.call.scanned.Goals as goal
 
 pub loop-field-preserved : goal.loop-field-preserved
 loop-field-preserved c =
-    let reads : Some c.in_ok-ok_or.field-0 ≡ value_of c.in-Some.field.now = sym c.in_ok-ok_or.ensures.ok-part ∙ c.value.ensures in (
+    let reads : Some c.in_ok-ok_or.field-0 ≡ value_of c.in-Some.field.now = sym c.in_ok-ok_or.ensures.ok_part ∙ c.value.ensures in (
       tt,
       tt,
       scan_more

@@ -1,6 +1,6 @@
-use Rattle.std.proofs.Common.{codes, sym, refl, ◌∙◌}
+use Rattle.std.proofs.Common.{sym, ap, ◌∙◌}
+use Rattle.std.specs.Str.{bytes_eq}
 use Rattle.text.specs.Coming.{coming}
-use Rattle.plan.proofs.Words.{same_from_eq}
 use Rattle.trial.proofs.Openings.{opens_by_word}
 use Rattle.trial.proofs.day.opens.Goals as goal
 
@@ -15,4 +15,4 @@ returns-in-Some-next c =
     c.eq.result
     (sym c.new.ensures ∙ c.in-Some.ensures.steps)
     (sym c.new-2.ensures ∙ c.in-Some-next.ensures.steps)
-    (same_from_eq _ (codes "open") c.eq.result c.eq.result c.eq.ensures refl)
+    (sym (c.eq.ensures ∙ ap (bytes_eq c.in-Some-next.word.now) c.as_slice.ensures))

@@ -26,18 +26,18 @@ returns-in-Ok c =
     c.in-Ok.ensures
     c.run.ensures
 
-pub returns-in_ok-tell : goal.returns-in_ok-tell
-returns-in_ok-tell c =
+pub returns-in_ok-tell-in-Err : goal.returns-in_ok-tell-in-Err
+returns-in_ok-tell-in-Err c =
     let text = c.split_at.result.0.now in
     let calls = c.split_at.result.1.now in
-    ap vec_items c.into-bytes.ensures.value
+    ap vec_items c.into_bytes.ensures.value
     ∙ day_fault
     c.args.input.now
     text
     calls
-    (string_bytes c.in_ok-tell.field-0)
+    (string_bytes c.in_ok-tell-in-Err.field-0)
     c.plan_length.result
     c.plan_length.ensures.value
     c.split_at.ensures.front
     c.split_at.ensures.back
-    (told_of_plan {E = AllocError} (λ given. from_plan given calls) string_bytes (Ok c.in_ok-tell.field-0) (plan_of text) c.in-Err.fault refl c.in-Err.ensures c.in_ok-tell.ensures.text c.in_ok-tell.ensures.numbered)
+    (told_of_plan {E = AllocError} (λ given. from_plan given calls) string_bytes (Ok c.in_ok-tell-in-Err.field-0) (plan_of text) c.in-Err.fault refl c.in-Err.ensures c.in_ok-tell-in-Err.ensures.text c.in_ok-tell-in-Err.ensures.numbered)

@@ -22,5 +22,5 @@ returns-in-Ok g c =
     c.in-Ok.ensures.answer
     c.size-rows.ensures
     c.width-width.ensures
-    c.in_ok-push_answer.ensures
+    c.in_ok-push_answer-in-Ok.ensures
     c.push_lines.ensures
