@@ -1,9 +1,9 @@
 -- Where a printer's next label comes from.
-use Rattle.std.proofs.Common.{◌≡◌, ℕ, zero, suc, ◌+◌, ◌-◌, ◌<◌, ◌≤◌, true, false, cond, eqb, ltb, List, [], ◌∷◌, length, get_or, set, is_some, Some, None, Option, sym, refl, ap, ◌∙◌, subst, ⊎_elim, arith}
+use Rattle.std.proofs.Common.{◌≡◌, ℕ, ◌+◌, ◌-◌, ◌<◌, ◌≤◌, false, eqb, List, [], ◌∷◌, length, get_or, set, is_some, Some, None, Option, sym, refl, ap, ◌∙◌, subst, ⊎_elim, arith}
 use Rattle.std.proofs.lemmas.List.{get_or_default, get_or-set_same, get_or-set_other, length-set}
 use Rattle.std.proofs.lemmas.List.Sums.{count_by-le-length}
 use Rattle.std.proofs.lemmas.Bool.{cond_both, eqb-true, eqb-false, cases_eq, true≢false}
-use Rattle.book.specs.Calls.{next_draw, from_lanes, last_of_longest, Drawable, lanes_after, waiting_after}
+use Rattle.book.specs.Calls.{next_draw, last_of_longest, Drawable, lanes_after, waiting_after}
 use Rattle.book.specs.Lanes.{no_lane, lane_at, left, longest, hands, undrawn, without_first, without_last}
 use Rattle.book.specs.declared.draw.Draw.{Draw}
 use Rattle.book.specs.declared.draw.Source.{Source}

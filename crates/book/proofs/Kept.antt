@@ -1,20 +1,18 @@
 -- What ties a book's state to its history.
-use Rattle.std.proofs.Common.{◌≡◌, ℕ, zero, suc, ◌+◌, ◌-◌, ◌<◌, ◌≤◌, Bool, true, false, cond, not, ◌&&◌, eqb, List, [], ◌∷◌, ◌++◌, map, length, get_or, Some, None, sum_by, count_by, filter, Option, sym, refl, ap, ◌∙◌, subst, ⊎_elim, arith}
+use Rattle.std.proofs.Common.{◌≡◌, ℕ, ◌+◌, ◌<◌, cond, eqb, List, [], ◌∷◌, length, Some, count_by, Option, sym, refl, ap, ◌∙◌, arith}
 use Rattle.std.specs.List.{range_with_len, AllByRecursion}
-use Rattle.std.proofs.lemmas.List.FromFn.{length-range_with_len, length-map-range_with_len, get_or-map-range_with_len}
-use Rattle.std.proofs.ByRecursion.{All-get_or}
-use Rattle.std.proofs.lemmas.List.Sums.{sum_by-cons}
+use Rattle.std.proofs.lemmas.List.FromFn.{length-map-range_with_len, get_or-map-range_with_len}
 use Rattle.std.proofs.lemmas.Bool.{eq-eqb, ne_eqb, cond-true, cond-false}
 use Rattle.walk.specs.Meaning.{Meaning, size, standing}
-use Rattle.walk.specs.Rows.{Row, Listed, same_row}
-use Rattle.book.specs.Lanes.{no_lane, lane_at, left, opened_lane, opened_lanes, lane_start}
+use Rattle.walk.specs.Rows.{Listed}
+use Rattle.book.specs.Lanes.{no_lane, lane_at, left, opened_lane, opened_lanes}
 use Rattle.book.specs.Opening.{opened}
-use Rattle.book.specs.Places.{Move, draws, puts, returns, nothing, hand, waits, undrawn, bench, queue, lane_labels, lane_left, last_front}
+use Rattle.book.specs.Places.{Move, nothing, hand, waits, undrawn, bench, queue, lane_labels, lane_left, last_front}
 use Rattle.book.specs.State.{State}
 use Rattle.book.specs.WholeLife.{one_if, on_bench, holds, in_hands}
 use Rattle.book.specs.declared.lane.Lane.{Lane}
 use Rattle.book.proofs.Ranges.{kept_all}
-use Rattle.book.proofs.Tallies.{sum_by_zeros, sum_by_same, all_counting, count_changed}
+use Rattle.book.proofs.Tallies.{sum_by_zeros, all_counting, count_changed}
 
 -- After the moves h, on the walk m with k printers, the book is in the state s.
 pub record Kept (m : Meaning) (k : ℕ) (h : List Move) (s : State) : Type 0 where

@@ -1,23 +1,20 @@
 -- What holds of a book over its whole life.
-use Rattle.std.proofs.Common.{◌≡◌, ℕ, zero, suc, ◌+◌, ◌-◌, ◌<◌, ◌≤◌, Bool, true, false, cond, not, ◌&&◌, eqb, ltb, ◌⊎◌, List, [], ◌∷◌, ◌++◌, map, length, get_or, drop, is_some, is_ok, Some, None, Ok, Err, sum_by, count_by, Option, Result, sym, refl, ap, ◌∙◌, subst, inl, inr, ⊎_elim, arith}
-use Rattle.std.specs.List.{range_with_len, AllByRecursion}
-use Rattle.std.specs.Option.{ok_or, option_map}
+use Rattle.std.proofs.Common.{◌≡◌, ℕ, ◌+◌, ◌<◌, false, cond, eqb, ltb, List, [], ◌∷◌, length, drop, is_some, is_ok, Some, None, Ok, Err, Option, Result, sym, refl, ap, ◌∙◌, subst, arith}
+use Rattle.std.specs.Option.{ok_or}
 use Rattle.std.proofs.lemmas.Bool.{eqb-true, ltb-true, cond_both}
 use Rattle.walk.specs.Answers.{finds}
-use Rattle.walk.specs.Meaning.{Meaning, Lawful, size, standing}
-use Rattle.walk.specs.Meaning as meaning
+use Rattle.walk.specs.Meaning.{Meaning, size, standing}
 use Rattle.walk.specs.Rows.{Row, Apart, label_of}
 use Rattle.walk.specs.declared.answers.Refusal.{Refusal}
-use Rattle.book.specs.Calls.{next_draw, labelled, takes, taken, written, held, matched, prints, after_printed, spoilt, shows, lanes_after, waiting_after}
-use Rattle.book.specs.Histories.{Call, Take, Printed, Spoiled, AskRow, AskLabel, AskCounts, Close, Answer, number, shown, four, refusal, numbered, showing, answer, after, state_after, history}
-use Rattle.book.specs.Lanes.{lane_at, left, longest, with_hand}
+use Rattle.book.specs.Calls.{next_draw, labelled, taken, written, held, matched, spoilt, shows, lanes_after, waiting_after}
+use Rattle.book.specs.Histories.{Call, Take, Printed, Spoiled, AskRow, AskLabel, AskCounts, Close, numbered, showing, answer, after, state_after, history}
+use Rattle.book.specs.Lanes.{lane_at, longest, with_hand}
 use Rattle.book.specs.Opening.{opened}
-use Rattle.book.specs.Places.{Move, draws, puts, returns, nothing, take_moves, printed_moves, spoiled_moves, move, moves, hand}
+use Rattle.book.specs.Places.{Move, draws, nothing, take_moves, printed_moves, spoiled_moves, move, moves, hand}
 use Rattle.book.specs.State.{State, printers}
 use Rattle.book.specs.declared.draw.Draw.{Draw}
 use Rattle.book.specs.declared.draw.Source.{Source}
 use Rattle.book.specs.declared.draw.Source.TheVariants.{Waiting, Front, Back}
-use Rattle.book.specs.declared.lane.Lane.{Lane}
 use Rattle.book.specs.declared.refusal.BookRefusal.{BookRefusal}
 use Rattle.book.specs.declared.refusal.BookRefusal.TheVariants.{UnknownPrinter, HandFull, NothingLeft, HandEmpty, OtherRow, NotAllPrinted}
 use Rattle.book.specs.declared.refusal.BookRefusal.TheVariants as refused

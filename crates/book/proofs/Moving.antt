@@ -1,21 +1,20 @@
 -- What a move leaves of the ties between a book's state and its history.
-use Rattle.std.proofs.Common.{◌≡◌, ℕ, zero, suc, ◌+◌, ◌-◌, ◌<◌, ◌≤◌, Bool, true, false, cond, not, ◌&&◌, eqb, List, [], ◌∷◌, ◌++◌, map, length, get_or, set, Some, None, sum_by, count_by, filter, Option, sym, refl, ap, ◌∙◌, subst, ⊎_elim, arith}
-use Rattle.std.specs.List.{range_with_len, AllByRecursion}
-use Rattle.std.proofs.ByRecursion.{All-push, all_kept_by}
+use Rattle.std.proofs.Common.{◌≡◌, ℕ, ◌+◌, ◌<◌, true, cond, eqb, List, [], ◌∷◌, ◌++◌, length, Some, None, count_by, Option, sym, refl, ap, ◌∙◌, subst, ⊎_elim, arith}
+use Rattle.std.specs.List.{range_with_len}
+use Rattle.std.proofs.ByRecursion.{All-push}
 use Rattle.std.proofs.lemmas.List.{get_or-set_same, get_or-set_other, length-set}
 use Rattle.std.proofs.lemmas.List.Sums.{sum_by-cons, sum_by_push}
-use Rattle.std.proofs.lemmas.Bool.{eqb-true, eqb-false, eq-eqb, ne_eqb, cases_eq, cases_Bool, cond-true, cond-false, cond_both}
+use Rattle.std.proofs.lemmas.Bool.{eq-eqb, ne_eqb, cases_eq, cond-true, cond-false, cond_both}
 use Rattle.walk.specs.Meaning.{Meaning, size, standing}
 use Rattle.walk.specs.Meaning as meaning
-use Rattle.walk.specs.Rows.{Row, Listed, Apart, same_row, row_at, label_of}
+use Rattle.walk.specs.Rows.{Row, Apart, same_row, row_at, label_of}
 use Rattle.walk.proofs.Differences.{same_itself, differ_from_unequal, label_of_stands}
 use Rattle.book.specs.Lanes.{no_lane, lane_at, left, with_hand}
-use Rattle.book.specs.Places.{Move, draws, puts, returns, nothing, hand, waits, undrawn, bench, queue, lane_labels, lane_left, last_front}
+use Rattle.book.specs.Places.{Move, puts, returns, hand, waits, bench, queue}
 use Rattle.book.specs.State.{State}
-use Rattle.book.specs.WholeLife.{one_if, on_bench, holds, in_hands}
+use Rattle.book.specs.WholeLife.{one_if, holds, in_hands}
 use Rattle.book.specs.declared.lane.Lane.{Lane}
 use Rattle.book.proofs.Kept.{Kept, in_hands_set}
-use Rattle.book.proofs.Ranges.{other_than, kept_by_both}
 use Rattle.book.proofs.Tallies.{one_le_count}
 
 -- a fact of a record that does not lie in its hand is the same with another hand

@@ -1,24 +1,22 @@
 -- What a book in its state answers is what the rules say of its history.
-use Rattle.std.proofs.Common.{◌≡◌, ℕ, zero, suc, ◌+◌, ◌-◌, ◌<◌, ◌≤◌, Bool, true, false, cond, not, ◌&&◌, eqb, ltb, ◌⊎◌, List, [], ◌∷◌, ◌++◌, map, reverse, length, get_or, drop, is_some, Some, None, Ok, Err, sum_by, count_by, filter, Option, Result, sym, refl, ap, ◌∙◌, subst, inl, inr, ⊎_elim, add-one, arith}
+use Rattle.std.proofs.Common.{◌≡◌, ℕ, zero, suc, ◌+◌, ◌-◌, ◌<◌, Bool, true, false, cond, eqb, ltb, List, [], ◌∷◌, ◌++◌, map, length, drop, is_some, Some, None, Ok, Err, Option, Result, sym, refl, ap, ◌∙◌, subst, add-one, arith}
 use Rattle.std.specs.List.{range_with_len, AllByRecursion}
 use Rattle.std.specs.Option.{ok_or, option_or, option_map}
 use Rattle.std.specs.Result as results
-use Rattle.std.proofs.lemmas.List.FromFn.{length-range_with_len, fill_by_all}
+use Rattle.std.proofs.lemmas.List.FromFn.{fill_by_all}
 use Rattle.std.proofs.lemmas.List.{reverse-append, length-map}
-use Rattle.std.proofs.lemmas.Bool.{eqb-true, eqb-false, eq-eqb, ne_eqb, lt-ltb, le-ltb, ltb-true, ltb-false, cases_lt, cond-true, cond-false, cond_both}
+use Rattle.std.proofs.lemmas.Bool.{eqb-false, ne_eqb, lt-ltb, ltb-true, cond-true, cond-false}
 use Rattle.walk.specs.Answers.{finds}
 use Rattle.walk.specs.Meaning.{Meaning, size, standing}
 use Rattle.walk.specs.Meaning as meaning
-use Rattle.walk.specs.Rows.{Row}
-use Rattle.book.specs.Calls.{next_draw, from_lanes, last_of_longest, labelled, takes, written, held, matched, prints, closes}
+use Rattle.book.specs.Calls.{next_draw, from_lanes, last_of_longest, labelled, written, held, matched}
 use Rattle.book.specs.Histories.{Call, Take, Printed, Spoiled, AskRow, AskLabel, AskCounts, Close, Answer, number, shown, four, refusal, numbered, showing, answer}
 use Rattle.book.specs.Lanes.{no_lane, lane_at, left, longest, first_greatest}
 use Rattle.book.specs.Lanes as lanes
-use Rattle.book.specs.Places.{Move, hand, queue, bench, lane_left, hands_count, waiting_count}
-use Rattle.book.specs.Rules.{first_of, last_of, longest_lane, next_label, giving, with_row, in_hand, rule}
+use Rattle.book.specs.Places.{Move, hand, bench, lane_left, hands_count, waiting_count}
+use Rattle.book.specs.Rules.{first_of, last_of, longest_lane, next_label, giving, in_hand, rule}
 use Rattle.book.specs.State.{State, printers}
 use Rattle.book.specs.declared.draw.Draw.{Draw}
-use Rattle.book.specs.declared.lane.Lane.{Lane}
 use Rattle.book.specs.declared.refusal.BookRefusal.{BookRefusal}
 use Rattle.book.specs.declared.refusal.BookRefusal.TheVariants.{UnknownPrinter, HandFull, NothingLeft, HandEmpty, NotAllPrinted}
 use Rattle.book.specs.declared.refusal.BookRefusal.TheVariants as refused

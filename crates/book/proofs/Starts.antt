@@ -1,9 +1,9 @@
 -- Where lanes begin on opening.
-use Rattle.std.proofs.Common.{◌≡◌, ℕ, zero, suc, ◌+◌, ◌-◌, ◌*◌, ◌/◌, ◌<◌, ◌≤◌, true, false, cond, List, [], ◌∷◌, ◌++◌, map, length, get_or, sum_by, sym, refl, ap, ◌∙◌, subst, mul-le-mul_right, add-mul, zero-mul, div-mul-le_self, add-one, arith}
+use Rattle.std.proofs.Common.{◌≡◌, ℕ, zero, suc, ◌+◌, ◌*◌, ◌/◌, ◌<◌, ◌≤◌, map, sum_by, sym, refl, ap, ◌∙◌, subst, mul-le-mul_right, add-mul, zero-mul, div-mul-le_self, add-one, arith}
 use native.Mathlib.Nat.{zero-div, mul-div_right, div-le_of_le-mul}
 use Rattle.std.specs.List.{range_with_len}
 use Rattle.std.proofs.lemmas.Nat.{le-div}
-use Rattle.std.proofs.lemmas.List.FromFn.{length-map-range_with_len, sum_by-map-range_with_len_more}
+use Rattle.std.proofs.lemmas.List.FromFn.{sum_by-map-range_with_len_more}
 use Rattle.book.specs.Lanes.{left, undrawn, hands, lane_start, opened_lane, opened_lanes}
 use Rattle.book.proofs.Accounts.{holding}
 

@@ -1,23 +1,23 @@
 -- What an accepted take leaves of the ties between a book's state and its history.
-use Rattle.std.proofs.Common.{◌≡◌, ℕ, zero, suc, ◌+◌, ◌-◌, ◌<◌, ◌≤◌, Bool, true, false, cond, not, ◌&&◌, eqb, ltb, ◌⊎◌, List, [], ◌∷◌, ◌++◌, map, length, get_or, drop, set, Some, None, sum_by, count_by, filter, Option, sym, refl, ap, ◌∙◌, subst, inl, inr, ⊎_elim, le_trans, add-zero, add-one, arith}
+use Rattle.std.proofs.Common.{◌≡◌, ℕ, zero, suc, ◌+◌, ◌-◌, ◌<◌, ◌≤◌, true, false, cond, not, ◌&&◌, eqb, ltb, ◌⊎◌, List, [], ◌∷◌, length, set, Some, None, count_by, filter, sym, refl, ap, ◌∙◌, subst, inl, inr, ⊎_elim, le_trans, add-zero, arith}
 use Rattle.std.specs.List.{range_with_len, AllByRecursion}
 use Rattle.std.proofs.lemmas.List.FromFn.{length-range_with_len, get_or-range_with_len}
 use Rattle.std.proofs.ByRecursion.{all_kept_by, kept_by_passes, All-get_or}
 use Rattle.std.proofs.lemmas.List.{get_or-set_same, get_or-set_other, length-set}
 use Rattle.std.proofs.lemmas.List.Sums.{sum_by-cons}
-use Rattle.std.proofs.lemmas.Bool.{eqb-true, eqb-false, eq-eqb, ne_eqb, lt-ltb, le-ltb, cases_eq, cases_Bool, cases_order, cond-true, cond-false, cond_both, and_from, and_left, and_right}
+use Rattle.std.proofs.lemmas.Bool.{eqb-true, eq-eqb, ne_eqb, lt-ltb, le-ltb, cases_eq, cases_order, cond-true, cond-false, cond_both, and_from, and_left, and_right}
 use Rattle.walk.specs.Meaning.{Meaning, size, standing}
-use Rattle.book.specs.Lanes.{no_lane, lane_at, left, longest, lane_start, with_hand, without_first, without_last}
-use Rattle.book.specs.Places.{Move, draws, puts, returns, nothing, hand, waits, undrawn, bench, queue, lane_labels, lane_left, waiting_count, at_front, last_front}
+use Rattle.book.specs.Lanes.{no_lane, lane_at, left, lane_start, with_hand, without_first, without_last}
+use Rattle.book.specs.Places.{Move, draws, hand, waits, undrawn, queue, lane_labels, lane_left, waiting_count, at_front, last_front}
 use Rattle.book.specs.State.{State}
 use Rattle.book.specs.WholeLife.{one_if, on_bench, holds, in_hands}
 use Rattle.book.specs.declared.lane.Lane.{Lane}
 use Rattle.book.proofs.Draws.{hand_set}
 use Rattle.book.proofs.Kept.{Kept, in_hands_set}
 use Rattle.book.proofs.Moving.{unhanded, hand_with}
-use Rattle.book.proofs.Ranges.{other_than, kept_by_both, kept_all, without_outside, without_first_number, without_last_number}
+use Rattle.book.proofs.Ranges.{other_than, kept_by_both, without_outside, without_first_number, without_last_number}
 use Rattle.book.proofs.Starts.{start_le_next, start_le}
-use Rattle.book.proofs.Tallies.{all_counting, false_from_none, true_from_one}
+use Rattle.book.proofs.Tallies.{all_counting}
 use Rattle.book.proofs.Totals.{queue_total}
 
 -- a list whose first element is l, and one whose first element is another, without l

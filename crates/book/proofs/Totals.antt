@@ -1,6 +1,6 @@
 -- What the places count in all.
-use Rattle.std.proofs.Common.{◌≡◌, ℕ, zero, suc, ◌+◌, ◌-◌, ◌<◌, ◌≤◌, Bool, true, false, cond, eqb, List, [], ◌∷◌, ◌++◌, map, length, get_or, is_some, Some, None, sum_by, count_by, filter, Option, sym, refl, ap, ◌∙◌, subst, ⊎_elim, zero-add, add-one, arith}
-use Rattle.std.specs.List.{range_with_len, AllByRecursion}
+use Rattle.std.proofs.Common.{◌≡◌, ℕ, zero, suc, ◌+◌, ◌-◌, ◌<◌, Bool, true, false, eqb, List, [], ◌∷◌, ◌++◌, map, length, is_some, Some, None, sum_by, count_by, filter, Option, sym, refl, ap, ◌∙◌, subst, ⊎_elim, zero-add, add-one, arith}
+use Rattle.std.specs.List.{range_with_len}
 use Rattle.std.proofs.lemmas.List.FromFn.{length-range_with_len, fill_by_all, sum_by-map-range_with_len_more}
 use Rattle.std.proofs.ByRecursion.{All-weaker}
 use Rattle.std.proofs.lemmas.List.{map-id}
@@ -8,11 +8,11 @@ use Rattle.std.proofs.lemmas.List.Sums.{sum_by-cons, sum_by-append, length-filte
 use Rattle.std.proofs.lemmas.Bool.{eq-eqb, ne_eqb, cases_eq, cases_Bool, cond-true, cond-false, true≢false}
 use Rattle.walk.specs.Meaning.{Meaning, Lawful, size}
 use Rattle.walk.specs.Meaning as meaning
-use Rattle.walk.specs.Rows.{Row, Listed, same_row, Apart, row_at}
+use Rattle.walk.specs.Rows.{Row, Listed, same_row, Apart}
 use Rattle.walk.proofs.Differences.{same_itself, differ_from_unequal}
 use Rattle.book.specs.Lanes.{no_lane, lane_at, left, lane_start}
 use Rattle.book.specs.Lanes as lanes
-use Rattle.book.specs.Places.{Move, hand, waits, undrawn, bench, queue, lane_labels, lane_left, waiting_count, undrawn_count, hands_count}
+use Rattle.book.specs.Places.{Move, hand, waits, undrawn, bench, queue, lane_labels, waiting_count, undrawn_count, hands_count}
 use Rattle.book.specs.State.{State}
 use Rattle.book.specs.WholeLife.{one_if, on_bench, holds, in_hands, in_lanes}
 use Rattle.book.specs.declared.lane.Lane.{Lane}

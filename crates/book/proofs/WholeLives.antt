@@ -1,22 +1,22 @@
 -- The theorem on a book's whole life.
-use Rattle.std.proofs.Common.{◌≡◌, ℕ, zero, suc, ◌+◌, ◌-◌, ◌<◌, ◌≤◌, Bool, true, false, cond, not, ◌&&◌, eqb, ltb, leb, ◌⊎◌, List, [], ◌∷◌, ◌++◌, map, length, get_or, is_some, Some, None, Ok, Err, sum_by, count_by, Option, sym, refl, ap, ◌∙◌, subst, inl, inr, ⊎_elim, arith}
+use Rattle.std.proofs.Common.{◌≡◌, ℕ, ◌+◌, ◌<◌, ◌≤◌, true, cond, ◌&&◌, eqb, ltb, leb, List, [], ◌∷◌, length, is_some, Some, None, Ok, Err, count_by, Option, sym, refl, ap, ◌∙◌, subst, ⊎_elim, arith}
 use Rattle.std.specs.List.{range_with_len, AllByRecursion}
 use Rattle.std.specs.Option.{option_map}
 use Rattle.std.proofs.lemmas.List.FromFn.{length-range_with_len, length-map-range_with_len}
 use Rattle.std.proofs.lemmas.List.{nil_from_length}
 use Rattle.std.proofs.lemmas.List.Sums.{sum_by-cons, get_or-le-sum_by}
-use Rattle.std.proofs.lemmas.Bool.{eqb-true, eq-eqb, ne_eqb, ltb-true, ltb-false, lt-ltb, le-ltb, cases_lt, cases_eq, cases_Bool, and_parts, and_from, le-leb, cond-true, cond-false, cond_both}
+use Rattle.std.proofs.lemmas.Bool.{eqb-true, eq-eqb, ne_eqb, ltb-true, ltb-false, lt-ltb, le-ltb, cases_lt, cases_eq, and_parts, and_from, le-leb, cond-true, cond-false, cond_both}
 use Rattle.walk.specs.Meaning.{Meaning, Lawful, size, standing}
 use Rattle.walk.specs.Meaning as meaning
-use Rattle.walk.specs.Rows.{Row, Listed, Apart, same_row, differences}
-use Rattle.book.specs.Calls.{next_draw, from_lanes, last_of_longest}
-use Rattle.book.specs.Histories.{Call, Take, Printed, Spoiled, AskRow, AskLabel, AskCounts, Close, Answer, number, shown, four, refusal, answer, state_after, history}
+use Rattle.walk.specs.Rows.{Row, Apart, differences}
+use Rattle.book.specs.Calls.{next_draw, last_of_longest}
+use Rattle.book.specs.Histories.{Take, AskCounts, Close, Answer, number, shown, refusal, answer, state_after, history}
 use Rattle.book.specs.Lanes.{no_lane, lane_at, left, longest, opened_lane, opened_lanes}
 use Rattle.book.specs.Opening.{opened, opens}
-use Rattle.book.specs.Places.{Move, moves, hand, waits, undrawn, bench, queue, lane_left, waiting_count, undrawn_count, hands_count, at_front, last_front}
+use Rattle.book.specs.Places.{Move, moves, hand, waits, undrawn, bench, queue, lane_left, waiting_count, undrawn_count, at_front, last_front}
 use Rattle.book.specs.Rules.{next_label, giving, rule}
-use Rattle.book.specs.State.{State, printers}
-use Rattle.book.specs.WholeLife.{one_if, ExactlyWhen, Refused, on_bench, holds, in_hands, Complete, Life, WholeLife}
+use Rattle.book.specs.State.{State}
+use Rattle.book.specs.WholeLife.{one_if, ExactlyWhen, Refused, on_bench, in_hands, Complete, Life, WholeLife}
 use Rattle.book.specs.declared.draw.Draw.{Draw}
 use Rattle.book.specs.declared.draw.Source.TheVariants.{Front}
 use Rattle.book.specs.declared.lane.Lane.{Lane}

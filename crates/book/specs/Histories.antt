@@ -1,5 +1,5 @@
 -- A book's life as others see it: a list of calls with their answers. Assumes nothing.
-use Rattle.std.specs.Prelude.{ℕ, Bool, true, false, cond, List, [], ◌∷◌, map, Ok, Err, Result}
+use Rattle.std.specs.Prelude.{ℕ, List, [], ◌∷◌, Ok, Err, Result}
 use Rattle.walk.specs.Rows.{Row}
 use Rattle.book.specs.Calls.{takes, after_take, tray_after_take, prints, after_printed, spoils, after_spoiled, shows, after_row, tray_after_row, labels, counted, closes}
 use Rattle.book.specs.State.{State}

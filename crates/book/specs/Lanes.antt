@@ -1,5 +1,5 @@
 -- Lanes and hands, as lists. Assumes nothing.
-use Rattle.std.specs.Prelude.{ℕ, suc, ◌+◌, ◌-◌, ◌*◌, ◌/◌, max, cond, List, [], ◌∷◌, map, length, is_some, None, sum_by, count_by, Option, nat_le, slice_index_or, slice_set}
+use Rattle.std.specs.Prelude.{ℕ, suc, ◌+◌, ◌-◌, ◌*◌, ◌/◌, max, cond, List, [], ◌∷◌, map, is_some, None, sum_by, count_by, Option, nat_le, slice_index_or, slice_set}
 use Rattle.std.specs.List.{range_with_len}
 use Rattle.book.specs.declared.lane.Lane.{Lane}
 

@@ -1,5 +1,5 @@
 -- Where each row is, told from the calls and their answers alone. Assumes nothing.
-use Rattle.std.specs.Prelude.{ℕ, ◌+◌, ◌-◌, Bool, true, false, cond, not, ◌&&◌, ◌||◌, List, [], ◌∷◌, ◌++◌, map, length, is_some, Some, None, count_by, filter, Option, ◌==◌, nat_lt}
+use Rattle.std.specs.Prelude.{ℕ, ◌+◌, ◌-◌, Bool, true, false, cond, not, ◌&&◌, List, [], ◌∷◌, ◌++◌, map, length, is_some, Some, None, count_by, filter, Option, ◌==◌, nat_lt}
 use Rattle.std.specs.List.{range_with_len}
 use Rattle.walk.specs.Rows.{Row}
 use Rattle.book.specs.Histories.{Event, Call, Take, Printed, Spoiled, AskRow, AskLabel, AskCounts, Close, Answer, number, shown, four, refusal}

@@ -1,5 +1,5 @@
 -- What a book is: a walk, lanes and hands, waiting labels, and how many rows the bench has. Assumes nothing.
-use Rattle.std.specs.Prelude.{ℕ, List, [], length, vec_items}
+use Rattle.std.specs.Prelude.{ℕ, List, length, vec_items}
 use Rattle.std.specs.VecDeque.{deque_items}
 use Rattle.walk.specs.Meaning.{Meaning}
 use Rattle.book.specs.declared.book.Book.{Book}

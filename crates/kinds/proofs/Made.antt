@@ -1,21 +1,15 @@
 -- What is made of a table of levels. Assumes nothing.
-use Rattle.std.proofs.Common.{◌≡◌, ℕ, ◌-◌, ◌<◌, ◌≤◌, Bool, true, false, cond, ◌&&◌, eqb, leb, List, [], ◌∷◌, length, is_ok, Ok, Err, vec_items, Result, Vec, sym, refl, ap, ◌∙◌, subst, ap₂, arith}
-use Rattle.std.specs.declared.alloc.Global.{Global}
-use Rattle.std.proofs.lemmas.Bool.{and_parts, and_from, leb-true, le-leb, lt-leb, eqb-true, cond-true, cond-false}
+use Rattle.std.proofs.Common.{◌≡◌, ℕ, ◌<◌, ◌≤◌, Bool, true, false, leb, List, length, is_ok, Ok, Err, Result, sym, ap, ◌∙◌, subst, arith}
+use Rattle.std.proofs.lemmas.Bool.{le-leb, lt-leb, cond-true, cond-false}
 use Rattle.walk.specs.Rows.{Row}
 use Rattle.walk.specs.Meaning.{Meaning}
 use Rattle.kinds.specs.Counts.{Tabled}
 use Rattle.walk.specs.Making.{new_walk, Makes}
-use Rattle.kinds.specs.Kinds.{making, radices_fit}
-use Rattle.kinds.specs.Ranges.{all_between}
-use Rattle.kinds.specs.Lists.{product}
+use Rattle.kinds.specs.Kinds.{making}
 use Rattle.kinds.specs.Shapes.{rows_of, width_of, steady_of}
 use Rattle.kinds.specs.declared.shape.Shape.{Shape}
 use Rattle.walk.specs.declared.making.MakingFault.{MakingFault}
 use Rattle.walk.specs.declared.making.MakingFault.TheVariants.{OutOfRange, TooManyRows, NoMemory}
-use Rattle.kinds.specs.declared.shape.Level.{Level}
-use Rattle.kinds.specs.MixedRadix.{mixed_length}
-use Rattle.kinds.specs.Radices.{radices_of_levels, length_levels, levels_of_hold}
 
 -- making with numbers that fit and few enough rows
 pub making_ok : (fit : Bool) (rows : List Row) (width : ℕ) (steady : Bool) → fit ≡ true → length rows ≤ 4294967295 → making fit rows width steady ≡ Ok (new_walk rows width steady)

@@ -1,17 +1,16 @@
 -- What is known of the tables from which kinds are made. Assumes nothing.
-use Rattle.std.proofs.Common.{◌≡◌, ℕ, zero, suc, ◌-◌, ◌<◌, ◌≤◌, Bool, true, false, ◌&&◌, eqb, leb, List, [], ◌∷◌, length, get_or, take, replicate, Ok, Err, vec_items, sum, Result, Vec, sym, refl, ap, ◌∙◌, subst, ap₂, ⊎_elim, arith}
+use Rattle.std.proofs.Common.{◌≡◌, ℕ, zero, suc, ◌-◌, ◌<◌, ◌≤◌, Bool, true, ◌&&◌, eqb, leb, List, length, get_or, take, replicate, Err, vec_items, sum, Result, Vec, sym, refl, ap, ◌∙◌, subst, ap₂, ⊎_elim, arith}
 use native.Mathlib.Nat.{sub-zero}
 use lib.ListN.{length-replicate}
 use Rattle.std.specs.declared.alloc.Global.{Global}
 use Rattle.std.proofs.lemmas.List.{take-replicate}
 use Rattle.std.proofs.lemmas.Bool.{and_parts, and_from, cases_lt, leb-true, le-leb, eqb-true}
-use Rattle.walk.specs.Making.{Makes}
 use Rattle.walk.specs.declared.making.MakingFault.{MakingFault}
 use Rattle.walk.specs.declared.making.MakingFault.TheVariants.{NoMemory}
 use Rattle.kinds.specs.Bins.{mosts, bins_of, bins_hold, capped, capped_ways}
 use Rattle.kinds.specs.Counts.{Tabled}
-use Rattle.kinds.specs.Kinds.{radices_fit, stocks_fit, choice_fits, counts_fit}
-use Rattle.kinds.specs.Lists.{product, ways, words, changes, factorial}
+use Rattle.kinds.specs.Kinds.{radices_fit, stocks_fit, choice_fits}
+use Rattle.kinds.specs.Lists.{product, ways, words, changes}
 use Rattle.kinds.specs.Ranges.{all_between}
 use Rattle.kinds.specs.Shapes.{radices, mixed, levels_of, levels_hold, sums_hold}
 use Rattle.kinds.specs.declared.shape.Bin.{Bin}

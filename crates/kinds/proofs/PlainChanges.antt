@@ -1,16 +1,15 @@
 -- Label to row and row to label in `changes`, one value at a time. Assumes nothing.
-use Rattle.std.proofs.Common.{◌≡◌, ℕ, zero, suc, ◌+◌, ◌-◌, ◌*◌, ◌/◌, ◌%◌, ◌<◌, ◌≤◌, true, leb, List, [], ◌∷◌, ◌++◌, length, get_or, take, drop, set, Some, None, Option, sym, refl, ap, ◌∙◌, subst, ap₂, ⊎_elim, mul_comm, add-one, arith}
+use Rattle.std.proofs.Common.{◌≡◌, ℕ, zero, suc, ◌+◌, ◌-◌, ◌*◌, ◌/◌, ◌%◌, ◌<◌, ◌≤◌, [], ◌∷◌, ◌++◌, length, get_or, take, drop, set, Some, None, Option, sym, refl, ap, ◌∙◌, subst, ap₂, ⊎_elim, mul_comm, add-one, arith}
 use borrow.Rule.Slice.PartMut.{put_mid}
-use Rattle.std.specs.Option.{option_map}
 use Rattle.std.specs.List.{insert, remove}
 use Rattle.std.proofs.lemmas.Nat.{div_below, mod_below, div-add-mod', mul-add-lt, mul-le}
 use Rattle.std.proofs.lemmas.List.Edits.{length-remove}
 use Rattle.std.proofs.lemmas.List.{append-nil, append_assoc, take_at, drop_at, take-append-drop, take-append-le, drop-append-le, drop_all, drop_more, set_split, length-append, length-drop, length-take-le, get_or_at}
-use Rattle.std.proofs.lemmas.Bool.{cases_Bool, cases_lt, cond-true, cond-false, le-leb, lt-leb}
+use Rattle.std.proofs.lemmas.Bool.{cases_lt}
 use Rattle.walk.specs.Rows.{Row, row_at, label_of}
 use Rattle.walk.proofs.Differences.{label_of_listed, label_of_stands, label_of_missing}
 use Rattle.kinds.specs.Counts.{counted}
-use Rattle.kinds.specs.Laws.{Apart, Permutation}
+use Rattle.kinds.specs.Laws.{Permutation}
 use Rattle.kinds.specs.Lists.{changes, factorial}
 use Rattle.kinds.specs.Changes.{position, position_below, position_back, permutation_less, permutation_last, changes_permutations, changes_length, changes_at, changes_apart}
 use Rattle.kinds.specs.Limits.{counted_within, counted_over}

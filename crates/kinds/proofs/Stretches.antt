@@ -1,10 +1,10 @@
 -- How stretches of lists are followed inward and back. Assumes nothing.
-use Rattle.std.proofs.Common.{◌≡◌, ℕ, zero, suc, ◌+◌, ◌-◌, ◌<◌, ◌≤◌, Bool, true, false, cond, not, List, [], ◌∷◌, ◌++◌, length, Some, None, Option, sym, refl, ap, ◌∙◌, subst, arith}
+use Rattle.std.proofs.Common.{◌≡◌, ℕ, zero, suc, ◌+◌, ◌-◌, ◌<◌, ◌≤◌, Bool, true, false, cond, not, List, [], ◌∷◌, ◌++◌, length, Some, None, sym, refl, ap, ◌∙◌, subst, arith}
 use Rattle.std.proofs.lemmas.List.{append-nil, append_assoc, append_cancel_left}
 use Rattle.walk.specs.Rows.{Row, row_at, label_of}
 use Rattle.walk.proofs.Differences.{label_of_first, label_of_missing}
 use Rattle.kinds.specs.declared.stretch.Stretch.{Stretch}
-use Rattle.kinds.specs.Tree.{label_in, label_within, after_both, Stands, Enters}
+use Rattle.kinds.specs.Tree.{label_in, label_within, after_both, Stands}
 
 -- the way in undoes the way out
 out_and_in : (b : Bool) (from count i : ℕ) → from ≤ i → i < from + count → (from + cond b (count - 1 - cond b (count - 1 - (i - from)) (i - from)) (cond b (count - 1 - (i - from)) (i - from)) ≡ i) × (cond b (count - 1 - (i - from)) (i - from) < count)

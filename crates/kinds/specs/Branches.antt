@@ -1,14 +1,13 @@
 -- Where the rows of `branches` stand, and what they take over from the rows of each branch. Assumes nothing.
-use Rattle.std.specs.Prelude.{◌≡◌, ℕ, zero, suc, ◌+◌, ◌-◌, ◌*◌, ◌/◌, ◌%◌, ◌<◌, ◌≤◌, Bool, true, false, cond, not, ◌⊎◌, ◌↔◌, List, [], ◌∷◌, reverse, length, refl}
-use Rattle.std.proofs.Common.{sym, ap, ap₂, ◌∙◌, inl, inr, ⊎_elim, arith, zero-add, zero-mul, suc-mul}
-use Rattle.std.proofs.lemmas.List.{length-append, length-map, get_or_append_left, get_or-append-add, get_or-map, get_or-reverse, length-reverse, reverse-reverse}
+use Rattle.std.specs.Prelude.{◌≡◌, ℕ, zero, suc, ◌+◌, ◌-◌, ◌*◌, ◌/◌, ◌%◌, ◌<◌, ◌≤◌, ◌⊎◌, List, [], ◌∷◌, length, refl}
+use Rattle.std.proofs.Common.{sym, ap, ◌∙◌, inl, inr, ⊎_elim, arith, zero-mul, suc-mul}
+use Rattle.std.proofs.lemmas.List.{length-append, length-map, get_or_append_left, get_or-append-add, get_or-map}
 use Rattle.std.proofs.lemmas.Nat.{div_below, mod_below, div-add-mod'}
-use Rattle.std.proofs.lemmas.Bool.{cases_lt, cases_order, eq-eqb, ne_eqb}
-use Rattle.std.proofs.lemmas.Bool.Decides.{nat_tests}
+use Rattle.std.proofs.lemmas.Bool.{cases_lt, cases_order}
 use Rattle.walk.specs.Rows.{Row, row_at, differences}
 pub use Rattle.walk.proofs.Differences.{differences_behind, differences_first, differences_same, differences_comm}
 pub use Rattle.walk.proofs.Turned.{apart_one, listed_reverse, apart_reverse, stepping_reverse, length_turned, row_turned, listed_turned, apart_turned, stepping_turned, turned_meets}
-use Rattle.kinds.specs.Lists.{led_by, branches, turned}
+use Rattle.kinds.specs.Lists.{led_by, branches}
 use Rattle.kinds.specs.Laws.{Listed, Apart, Precedes, Rising, Stepping}
 
 -- how many rows lie before the branch v

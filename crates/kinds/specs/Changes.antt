@@ -1,14 +1,12 @@
 -- The laws of `changes`. Assumes nothing.
-use Rattle.std.specs.Prelude.{◌≡◌, ℕ, zero, suc, ◌+◌, ◌-◌, ◌*◌, ◌/◌, ◌%◌, ◌<◌, ◌≤◌, Bool, true, false, cond, not, List, [], ◌∷◌, ◌++◌, length, take, drop, Some, None, Option, ◌≢◌, nat_lt, slice_index, refl}
+use Rattle.std.specs.Prelude.{◌≡◌, ℕ, zero, suc, ◌+◌, ◌-◌, ◌*◌, ◌/◌, ◌%◌, ◌<◌, ◌≤◌, Bool, true, false, cond, not, List, [], ◌∷◌, ◌++◌, length, take, drop, ◌≢◌, nat_lt, slice_index, refl}
 use Rattle.std.proofs.Common.{sym, ap, ap₂, subst, ◌∙◌, ⊎_elim, arith, zero-mul, suc-mul, mul_comm, add-one}
-use Rattle.std.specs.Option.{option_map}
 use Rattle.std.specs.List.{insert}
 use Rattle.std.proofs.lemmas.Nat.{div_below, mod_below, div-add-mod', mul-add-lt, mul-le}
 use Rattle.std.proofs.lemmas.List.{nil_from_length, take-append-drop, take_at, drop_at, take_all, drop_all, length-append, length-map, length-take-le, get_or_append_left, get_or-append-add, get_or-map, get_or_at}
 use Rattle.std.proofs.lemmas.Bool.{cases_lt}
 use Rattle.std.proofs.lemmas.Bool.Decides.{nat_tests}
-use Rattle.walk.specs.Rows.{Row, row_at, label_of}
-use Rattle.walk.proofs.Differences.{label_of_missing}
+use Rattle.walk.specs.Rows.{Row, row_at}
 use Rattle.kinds.specs.Lists.{led_by, turned, odd, sweep, woven, changes, factorial}
 use Rattle.kinds.specs.Laws.{Listed, occurrences, Permutation, Apart, ChangesLaws}
 use Rattle.kinds.specs.Branches.{apart_one, length_turned, row_turned}

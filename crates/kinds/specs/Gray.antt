@@ -1,7 +1,6 @@
 -- The laws of `gray`. Assumes nothing.
-use Rattle.std.specs.Prelude.{◌≡◌, ℕ, suc, ◌-◌, ◌<◌, not, List, [], ◌∷◌, length, refl}
+use Rattle.std.specs.Prelude.{◌≡◌, ℕ, suc, ◌-◌, ◌<◌, List, [], ◌∷◌, length, refl}
 use Rattle.std.proofs.Common.{◌∙◌, arith}
-use Rattle.std.proofs.lemmas.Bool.Decides.{nat_tests}
 use Rattle.walk.specs.Rows.{Row, row_at}
 use Rattle.walk.proofs.Parity.{odd_suc}
 use Rattle.kinds.specs.Lists.{turned, odd, product, gray}

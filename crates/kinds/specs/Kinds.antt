@@ -1,5 +1,5 @@
 -- What a kind means as a walk, and what making one gives. Assumes nothing.
-use Rattle.std.specs.Prelude.{ℕ, Bool, true, false, cond, ◌&&◌, List, [], ◌∷◌, length, Ok, Err, sum, Result, ◌==◌, nat_le}
+use Rattle.std.specs.Prelude.{ℕ, Bool, true, false, cond, ◌&&◌, List, length, Ok, Err, sum, Result, ◌==◌, nat_le}
 use Rattle.walk.specs.Rows.{Row}
 use Rattle.walk.specs.Meaning.{Meaning}
 use Rattle.walk.specs.Making.{new_walk}

@@ -1,10 +1,10 @@
 -- The branches of mixed radices, by the counts in their levels. Assumes nothing.
-use Rattle.std.specs.Prelude.{◌≡◌, ℕ, ◌+◌, ◌-◌, ◌*◌, ◌/◌, ◌%◌, ◌<◌, ◌≤◌, Bool, true, false, cond, ◌&&◌, List, [], ◌∷◌, length, ◌≢◌, slice_index_or, refl}
+use Rattle.std.specs.Prelude.{◌≡◌, ℕ, ◌*◌, ◌/◌, ◌%◌, ◌<◌, ◌≤◌, Bool, true, false, ◌&&◌, List, [], ◌∷◌, length, ◌≢◌, slice_index_or, refl}
 use Rattle.std.proofs.Common.{sym, ap, subst, subst₂, ◌∙◌, le_of_lt, mul-le-mul_right, arith}
 use Rattle.std.proofs.lemmas.Bool.{and_parts, leb-true, eqb-true}
 use Rattle.std.proofs.lemmas.Nat.{div_below}
 use Rattle.walk.specs.Rows.{Row, row_at}
-use Rattle.kinds.specs.Lists.{branches, turned, odd, product, digits, gray}
+use Rattle.kinds.specs.Lists.{branches, turned, odd, product}
 use Rattle.kinds.specs.Shapes.{radices, mixed, levels_hold}
 use Rattle.kinds.specs.Tree.{Stands}
 use Rattle.kinds.specs.declared.shape.Level.{Level}

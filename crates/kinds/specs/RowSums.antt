@@ -1,12 +1,12 @@
 -- Rows with a sum, by the counts in their bins. Assumes nothing.
-use Rattle.std.specs.Prelude.{◌≡◌, ℕ, zero, suc, ◌+◌, ◌-◌, ◌<◌, ◌≤◌, min, Bool, true, false, cond, not, ◌&&◌, ◌||◌, List, [], ◌∷◌, map, length, replicate, nat_le, slice_index, slice_index_or, refl}
+use Rattle.std.specs.Prelude.{◌≡◌, ℕ, zero, suc, ◌+◌, ◌-◌, ◌<◌, ◌≤◌, min, Bool, true, false, not, ◌&&◌, ◌||◌, List, [], ◌∷◌, length, replicate, nat_le, slice_index, slice_index_or, refl}
 use Rattle.std.proofs.Common.{sym, ap, ap₂, subst, subst₂, ◌∙◌, ⊎_elim, arith}
 use Rattle.std.proofs.lemmas.Bool.{and_parts, leb-true, cases_lt}
-use Rattle.walk.specs.Rows.{Row, row_at, odd, same_row}
+use Rattle.walk.specs.Rows.{odd, same_row}
 use Rattle.walk.proofs.Differences.{equal_from_same}
 use Rattle.kinds.specs.Bins.{mosts, capped_ways, bins_hold, filled}
 use Rattle.kinds.specs.Ranges.{all_between}
-use Rattle.kinds.specs.Lists.{stock, door, ways, total}
+use Rattle.kinds.specs.Lists.{door, ways, total}
 use Rattle.kinds.specs.Tree.{Stands}
 use Rattle.kinds.specs.declared.shape.Bin.{Bin}
 use Rattle.kinds.specs.declared.sums.StockNode.{StockNode}

@@ -1,16 +1,13 @@
 -- The tables of capped counts. Assumes nothing.
 use Rattle.std.specs.Prelude.{◌≡◌, ℕ, zero, suc, ◌+◌, ◌-◌, ◌<◌, ◌≤◌, min, true, List, [], ◌∷◌, ◌++◌, reverse, length, drop, replicate, slice_index, slice_set, refl}
-use Rattle.std.proofs.Common.{sym, ap, ap₂, subst, ◌∙◌, arith}
-use Rattle.std.proofs.lemmas.List.FromFn.{get_or-map-range_with_len, length-map-range_with_len}
-use Rattle.std.proofs.lemmas.List.{ext_get_or, drop_more, drop_all, reverse-append, reverse-reverse}
+use Rattle.std.proofs.Common.{sym, ap, subst, ◌∙◌, arith}
+use Rattle.std.proofs.lemmas.List.FromFn.{get_or-map-range_with_len}
+use Rattle.std.proofs.lemmas.List.{ext_get_or, drop_more, reverse-append}
 use Rattle.std.proofs.lemmas.Bool.{and_from}
 use Rattle.walk.specs.Rows.{same_row}
 use Rattle.walk.proofs.Differences.{same_itself}
 use Rattle.kinds.specs.Bins.{capped, capped_ways, mosts, bins_of, bins_hold}
-use Rattle.kinds.specs.Ranges.{all_between}
 use Rattle.kinds.specs.Lists.{ways, total}
-use Rattle.kinds.specs.declared.shape.Bin.{Bin}
-use Rattle.kinds.specs.Radices.{between_at}
 
 -- the count of a sum
 pub ways_at : (stocks : List ℕ) (t : ℕ) → t < 33 → slice_index (capped_ways stocks) t ≡ capped (ways stocks t)

@@ -1,8 +1,8 @@
 -- The lines of a text by its last byte. Assumes nothing.
-use Rattle.std.proofs.Common.{◌≡◌, ℕ, ◌≤◌, Bool, true, false, cond, eqb, leb, List, [], ◌∷◌, ◌++◌, length, Some, None, Option, sym, refl, ap, ◌∙◌, arith, eq-eqb, ne_eqb}
+use Rattle.std.proofs.Common.{◌≡◌, ℕ, ◌≤◌, Bool, true, false, eqb, List, [], ◌∷◌, ◌++◌, length, Some, None, refl, ap, ◌∙◌, arith, eq-eqb, ne_eqb}
 use Rattle.std.specs.Option.{option_map}
 use Rattle.std.proofs.lemmas.Bool.{cond-true, le-leb}
-use Rattle.plan.specs.Format.{Lines, and_then, provided, body, plan_lines, lines_of_text}
+use Rattle.plan.specs.Format.{and_then, provided, body, plan_lines, lines_of_text}
 use Rattle.text.specs.Pieces.{pieces}
 
 mapped_provided : {X Y : Type 0} (f : X → Y) (t : Bool) (x : X) → option_map f (provided t (Some x)) ≡ provided t (Some (f x))

@@ -8,7 +8,7 @@ use Rattle.kinds.specs.declared.kind.Kind.{Kind}
 use Rattle.faults.specs.declared.Cause.TheVariants.{Part as PartCause}
 use Rattle.faults.specs.declared.PartFault.TheVariants.{Form}
 use Rattle.faults.specs.declared.PlanFault.{PlanFault}
-use Rattle.plan.specs.Format.{Head, Line, then, each, on_line, entry_read, head_of_line, head_made, part_made, numbered, line_made}
+use Rattle.plan.specs.Format.{Head, then, each, on_line, entry_read, head_of_line, head_made, part_made, numbered, line_made}
 use Rattle.plan.specs.Reading.{meanings}
 use Rattle.plan.proofs.Gathers.{also, each_more, each_done}
 

@@ -1,6 +1,6 @@
-use Rattle.std.proofs.Common.{◌≡◌, ◌-◌, ◌++◌, take, replicate, is_ok, string_bytes, codes, decimal, sym, ap, ◌∙◌, subst, ap₂, arith, lit≤}
+use Rattle.std.proofs.Common.{◌≡◌, ◌-◌, ◌++◌, take, replicate, is_ok, string_bytes, codes, decimal, ap, ◌∙◌, subst, ap₂, arith}
 use Rattle.std.proofs.ResultArms.{chosen}
-use Rattle.walk.specs.Meaning.{size, row, standing, Lawful}
+use Rattle.walk.specs.Meaning.{row, standing, Lawful}
 use Rattle.walk.specs.Answers.{after_read}
 use Rattle.walk.proofs.Cases.{seek_in}
 use Rattle.walk.proofs.Calls.{tray_begins}

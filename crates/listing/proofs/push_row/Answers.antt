@@ -1,4 +1,4 @@
-use Rattle.std.proofs.Common.{◌++◌, get_or, is_ok, string_bytes, decimal, sym, ap, ◌∙◌, ap₂, arith}
+use Rattle.std.proofs.Common.{◌++◌, get_or, is_ok, string_bytes, decimal, ap, ◌∙◌, ap₂, arith}
 use Rattle.std.proofs.lemmas.List.{append_assoc, take_all}
 use Rattle.std.proofs.ResultArms.{chosen}
 use Rattle.listing.specs.Texts.{row_text}

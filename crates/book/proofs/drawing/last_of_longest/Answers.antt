@@ -1,4 +1,4 @@
-use Rattle.std.proofs.Common.{arith, rules}
+use Rattle.std.proofs.Common.{rules}
 use Rattle.book.proofs.Longest.{longest_within}
 use Rattle.book.proofs.drawing.last_of_longest.Goals as goal
 

@@ -1,4 +1,4 @@
-use Rattle.std.proofs.Common.{arith, rules}
+use Rattle.std.proofs.Common.{rules}
 use Rattle.book.proofs.Starts.{start_le}
 use Rattle.book.proofs.opening.lane_start.Goals as goal
 

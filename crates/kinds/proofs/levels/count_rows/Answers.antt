@@ -1,4 +1,4 @@
-use Rattle.std.proofs.Common.{◌≡◌, ◌+◌, ◌*◌, ◌<◌, get_or, drop, sym, ap, ◌∙◌, subst, arith}
+use Rattle.std.proofs.Common.{◌+◌, ◌*◌, ◌<◌, drop, sym, ap, ◌∙◌, subst, arith}
 use Rattle.kinds.specs.Lists.{product}
 use Rattle.kinds.specs.Radices.{count_more, count_over, count_whole}
 use Rattle.kinds.proofs.levels.count_rows.Goals as goal

@@ -1,4 +1,4 @@
-use Rattle.std.proofs.Common.{sum, sym, ◌∙◌, arith}
+use Rattle.std.proofs.Common.{sum, sym, arith}
 use Rattle.std.proofs.lemmas.List.{at_drop_all}
 use Rattle.std.proofs.lemmas.List.Sums.{sum_by-drop_more}
 use Rattle.std.proofs.lemmas.Bool.{le-leb, lt-leb}

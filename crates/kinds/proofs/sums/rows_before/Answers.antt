@@ -1,4 +1,4 @@
-use Rattle.std.proofs.Common.{◌≡◌, ℕ, suc, ◌+◌, ◌-◌, get_or, ap, ◌∙◌, ap₂, add-one, arith}
+use Rattle.std.proofs.Common.{ℕ, suc, ◌+◌, ◌-◌, get_or, ap, ◌∙◌, ap₂, add-one, arith}
 use Rattle.kinds.specs.Lists.{total}
 use Rattle.kinds.specs.RowSums.{total_more}
 use Rattle.kinds.proofs.sums.rows_before.Goals as goal

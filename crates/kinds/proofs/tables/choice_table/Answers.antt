@@ -1,4 +1,4 @@
-use Rattle.std.proofs.Common.{◌≡◌, true, replicate, vec_items, sym, ◌∙◌, subst, arith}
+use Rattle.std.proofs.Common.{◌≡◌, true, vec_items, sym, ◌∙◌, subst}
 use Rattle.kinds.specs.Bins.{bins_of}
 use Rattle.kinds.specs.Counts.{Tabled}
 use Rattle.kinds.specs.Kinds.{choice_fits}

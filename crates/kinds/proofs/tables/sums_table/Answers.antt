@@ -1,4 +1,4 @@
-use Rattle.std.proofs.Common.{refl, ◌∙◌, arith}
+use Rattle.std.proofs.Common.{refl, arith}
 use Rattle.std.proofs.lemmas.Result.{err_from_is_err_and}
 use Rattle.kinds.proofs.MadeTables.{count_read, tabled_no_memory}
 use Rattle.kinds.proofs.tables.sums_table.Goals as goal

@@ -1,4 +1,4 @@
-use Rattle.std.proofs.Common.{◌+◌, ◌∷◌, ◌++◌, get_or, take, drop, sym, ap, ◌∙◌, subst₂, arith, take-append-drop}
+use Rattle.std.proofs.Common.{◌+◌, ◌++◌, get_or, take, drop, sym, ap, ◌∙◌, subst₂, arith, take-append-drop}
 use Rattle.std.proofs.lemmas.List.{take_more, take_all, drop_more}
 use Rattle.kinds.specs.Tree.{Stands}
 use Rattle.walk.specs.Rows.{label_of}

@@ -1,4 +1,4 @@
-use Rattle.std.proofs.Common.{◌≡◌, get_or, set, sym, ap, ◌∙◌, arith, below_more}
+use Rattle.std.proofs.Common.{get_or, set, ap, ◌∙◌, arith, below_more}
 use Rattle.std.proofs.lemmas.List.{length-set, get_or-set_same, get_or-set_other}
 use Rattle.kinds.specs.WayCounts.{ways_more}
 use Rattle.kinds.proofs.ways.ways_on.Goals as goal

@@ -1,4 +1,4 @@
-use Rattle.std.proofs.Common.{◌≡◌, ℕ, ◌+◌, ◌-◌, get_or, sym, ap, ◌∙◌, ap₂, add-one, arith}
+use Rattle.std.proofs.Common.{ℕ, ◌+◌, ◌-◌, get_or, sym, ap, ◌∙◌, ap₂, add-one, arith}
 use Rattle.kinds.specs.Lists.{total}
 use Rattle.kinds.proofs.ways.ways_with.Goals as goal
 

@@ -1,5 +1,5 @@
 use Rattle.std.proofs.cmp.Tests.{ltb_from_iff}
-use Rattle.std.proofs.Common.{◌≡◌, true, false, map, length, Err, vec_items, codes, sym, refl, ap, ◌∙◌, subst, inl, arith}
+use Rattle.std.proofs.Common.{true, false, map, length, Err, codes, sym, ap, ◌∙◌, inl}
 use Rattle.std.proofs.lemmas.Result.{err_from_is_err_and}
 use Rattle.kinds.specs.Kinds.{kind_meaning}
 use Rattle.faults.specs.Faults.{lined}

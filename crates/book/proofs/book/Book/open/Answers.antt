@@ -1,4 +1,4 @@
-use Rattle.std.proofs.Common.{refl, arith, rules}
+use Rattle.std.proofs.Common.{refl, arith}
 use Rattle.book.specs.State.{state}
 use Rattle.book.proofs.WholeLives.{opened_life}
 use Rattle.book.proofs.book.Book.open.Goals as goal

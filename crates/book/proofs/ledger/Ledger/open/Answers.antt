@@ -1,4 +1,4 @@
-use Rattle.std.proofs.Common.{◌≡◌, ap, ◌∙◌, arith, rules}
+use Rattle.std.proofs.Common.{◌≡◌, ap, ◌∙◌, arith}
 use Rattle.book.specs.Lanes.{hands, undrawn}
 use Rattle.book.proofs.Starts.{undrawn_opened, hands_opened}
 use Rattle.book.proofs.ledger.Ledger.open.Goals as goal

@@ -1,4 +1,4 @@
-use Rattle.std.proofs.Common.{◌≡◌, ◌<◌, subst, arith, rules}
+use Rattle.std.proofs.Common.{◌<◌, subst, arith, rules}
 use Rattle.book.specs.Calls.{Drawable}
 use Rattle.book.proofs.Accounts.{lane_open, first_drawn, last_drawn}
 use Rattle.book.proofs.ledger.Ledger.remove.Goals as goal

@@ -1,4 +1,4 @@
-use Rattle.std.proofs.Common.{◌≡◌, ℕ, true, false, List, length, replicate, vec_items, sum, sym, refl, ap, ◌∙◌, subst, arith}
+use Rattle.std.proofs.Common.{ℕ, true, List, length, replicate, vec_items, sym, refl, ap, ◌∙◌, subst, arith}
 use Rattle.std.proofs.lemmas.Result.{err_from_is_err_and, IfOk-from_err}
 use Rattle.kinds.specs.Kinds.{kind_meaning}
 use Rattle.kinds.proofs.Made.{fault_goes_on, walk_of_table}
@@ -10,7 +10,6 @@ use Rattle.kinds.specs.Ranges.{all_between}
 use Rattle.std.proofs.lemmas.Bool.{and_from}
 use Rattle.kinds.specs.Door.{door_length, door_laws}
 use Rattle.kinds.proofs.MadeTables.{SumRows, ones_fitting, sum_table, between_replicate}
-use Rattle.kinds.specs.Bins.{bins_of}
 use Rattle.kinds.specs.declared.shape.Shape.TheVariants.{Door}
 use Rattle.kinds.proofs.kind.Kind.door.Goals as goal
 

@@ -1,11 +1,10 @@
-use Rattle.std.proofs.Common.{◌≡◌, ℕ, true, false, List, length, replicate, vec_items, sum, sym, refl, ap, ◌∙◌, subst, arith}
+use Rattle.std.proofs.Common.{true, vec_items, sym, refl, ap, subst}
 use Rattle.std.proofs.lemmas.Result.{err_from_is_err_and, IfOk-from_err}
 use Rattle.kinds.specs.Kinds.{kind_meaning}
 use Rattle.kinds.proofs.Made.{fault_goes_on, walk_of_table}
 use Rattle.kinds.specs.Kinds.{radices_fit}
 use Rattle.kinds.specs.Laws.{GrayLaws}
 use Rattle.kinds.specs.Lists.{product, gray}
-use Rattle.kinds.specs.Shapes.{levels_of}
 use Rattle.kinds.specs.declared.shape.Shape.TheVariants.{Gray}
 use Rattle.kinds.specs.Gray.{gray_length, gray_laws}
 use Rattle.kinds.proofs.MadeTables.{RadixRows, radix_table, radix_count}

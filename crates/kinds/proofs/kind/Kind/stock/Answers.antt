@@ -1,4 +1,4 @@
-use Rattle.std.proofs.Common.{◌≡◌, ℕ, true, false, List, length, replicate, vec_items, sum, sym, refl, ap, ◌∙◌, subst, arith}
+use Rattle.std.proofs.Common.{false, length, vec_items, sym, refl, ap, ◌∙◌, subst, arith}
 use Rattle.std.proofs.lemmas.Result.{err_from_is_err_and, IfOk-from_err}
 use Rattle.kinds.specs.Kinds.{kind_meaning}
 use Rattle.kinds.proofs.Made.{fault_goes_on, walk_of_table}
@@ -7,7 +7,6 @@ use Rattle.kinds.specs.Laws.{StockLaws}
 use Rattle.kinds.specs.Lists.{ways, stock}
 use Rattle.kinds.specs.Stock.{stock_length, stock_laws}
 use Rattle.kinds.proofs.MadeTables.{SumRows, stocks_fitting, sum_table}
-use Rattle.kinds.specs.Bins.{bins_of}
 use Rattle.kinds.specs.declared.shape.Shape.TheVariants.{Stock}
 use Rattle.kinds.proofs.kind.Kind.stock.Goals as goal
 

@@ -1,4 +1,4 @@
-use Rattle.std.proofs.Common.{false, length, vec_items, sum, sym, refl, ap, subst}
+use Rattle.std.proofs.Common.{false, length, sum, sym, refl, ap, subst}
 use Rattle.kinds.specs.Kinds.{kind_meaning, counts_fit}
 use Rattle.kinds.specs.Laws.{WordsLaws}
 use Rattle.kinds.specs.Lists.{words}

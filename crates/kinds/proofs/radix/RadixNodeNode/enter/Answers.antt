@@ -1,4 +1,4 @@
-use Rattle.std.proofs.Common.{◌*◌, ◌&&◌, [], ◌∷◌, sym, ap, ◌∙◌, subst, arith, rules}
+use Rattle.std.proofs.Common.{◌*◌, ◌&&◌, [], ◌∷◌, sym, ap, subst, arith}
 use Rattle.kinds.specs.Lists.{odd}
 use Rattle.kinds.specs.Shapes.{radices, mixed}
 use Rattle.kinds.specs.Tree.{Stands}

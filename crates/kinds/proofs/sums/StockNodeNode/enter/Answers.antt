@@ -1,7 +1,6 @@
-use Rattle.std.proofs.Common.{◌≡◌, ℕ, suc, ◌+◌, ◌-◌, ◌<◌, ◌≤◌, min, ◌&&◌, [], ◌∷◌, get_or, sym, ap, ◌∙◌, subst, subst₂, arith}
+use Rattle.std.proofs.Common.{◌-◌, ◌≤◌, min, ◌&&◌, [], ◌∷◌, get_or, sym, ap, ◌∙◌, subst₂, arith}
 use Rattle.walk.specs.Rows.{odd}
 use Rattle.kinds.specs.Bins.{mosts, filled}
-use Rattle.kinds.specs.Lists.{total}
 use Rattle.kinds.specs.Tree.{Stands}
 use Rattle.kinds.specs.RowSums.{front, node_enters, node_outside, node_empty, counts_few, count_is, rest_few, rest_ones, first_bin}
 use Rattle.kinds.specs.Fronts.{rest_of, rest_length}

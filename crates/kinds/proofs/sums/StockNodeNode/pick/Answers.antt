@@ -1,4 +1,4 @@
-use Rattle.std.proofs.Common.{◌≡◌, ℕ, suc, ◌+◌, ◌-◌, ◌<◌, ◌≤◌, get_or, sym, ap, ◌∙◌, subst, add-one, arith}
+use Rattle.std.proofs.Common.{◌≡◌, ℕ, suc, ◌+◌, ◌-◌, get_or, sym, ap, subst, add-one, arith}
 use Rattle.kinds.specs.Lists.{total}
 use Rattle.kinds.specs.RowSums.{node_picks, node_whole, front}
 use Rattle.kinds.proofs.sums.StockNodeNode.pick.Goals as goal

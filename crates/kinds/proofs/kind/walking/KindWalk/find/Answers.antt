@@ -1,4 +1,4 @@
-use Rattle.std.proofs.Common.{sym, ap, ◌∙◌, arith}
+use Rattle.std.proofs.Common.{sym, ap, ◌∙◌}
 use Rattle.std.specs.Option.{ok_or}
 use Rattle.walk.proofs.Differences.{label_of_missing}
 use Rattle.walk.specs.declared.answers.Refusal.TheVariants.{NoSuchRow}
