@@ -25,5 +25,5 @@ cause_layer (Part (Making fault)) = PartLayer
 cause_layer (Join fault) = JoinLayer
 
 -- a cause with the line on which it stands
-abbrev pub lined : Cause → ℕ → PlanFault
-lined cause line = record { cause = cause; line = line }
+abbrev pub fault : Cause → ℕ → PlanFault
+fault cause line = record { cause = cause; line = line }

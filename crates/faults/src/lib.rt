@@ -3,7 +3,7 @@
 
 ghost use Rattle.std.specs.Prelude.{◌≡◌};
 ghost use Rattle.walk.specs.declared.making.MakingFault.TheVariants.{NoMemory};
-ghost use Rattle.faults.specs.Faults.{cause_number, cause_layer, lined};
+ghost use Rattle.faults.specs.Faults.{cause_number, cause_layer, fault as lined};
 ghost use Rattle.faults.specs.declared.PartFault.TheVariants.{Making};
 ghost use Rattle.faults.specs.declared.Cause.TheVariants.{Part as PartCause, Join as JoinCause};
 

@@ -7,7 +7,7 @@ use Rattle.std.specs.Str.{bytes_eq}
 use Rattle.std.proofs.lemmas.List.{nil_from_length}
 use Rattle.std.proofs.lemmas.Bool.{cond-true, cond-false, ltb-false}
 use Rattle.walk.specs.Meaning.{Meaning}
-use Rattle.faults.specs.Faults.{lined}
+use Rattle.faults.specs.Faults.{fault}
 use Rattle.faults.specs.declared.Cause.TheVariants.{Text, Names}
 use Rattle.faults.specs.declared.PlanFault.{PlanFault}
 use Rattle.plan.specs.Format.{then, Lines, lines_of_text, parts_made, blank, joined_parts, all_joined, plan_of_lines, plan_of}
@@ -15,11 +15,11 @@ use Rattle.plan.specs.Reading.{LacksMemory, Gives}
 
 -- a text that has the lines of a plan
 pub plan_at_lines : (text : List ℕ) (lines : Lines) → Some lines ≡ lines_of_text text → plan_of text ≡ plan_of_lines lines
-plan_at_lines text lines is = ap (λ o. then (ok_or o (lined Text 0)) plan_of_lines) (sym is)
+plan_at_lines text lines is = ap (λ o. then (ok_or o (fault Text 0)) plan_of_lines) (sym is)
 
 module _ (text : List ℕ) (lines : Lines) (is : Some lines ≡ lines_of_text text) where
   -- the first line is not the names line
-  pub plan_other_names : bytes_eq lines.names (codes "kind,n,t,list") ≡ false → plan_of text ≡ Err (lined Names 1)
+  pub plan_other_names : bytes_eq lines.names (codes "kind,n,t,list") ≡ false → plan_of text ≡ Err (fault Names 1)
   plan_other_names other = plan_at_lines text lines is ∙ cond-false _ _ _ other
 
   -- it is

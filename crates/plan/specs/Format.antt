@@ -12,7 +12,7 @@ use Rattle.walk.specs.Meaning.{Meaning}
 use Rattle.walk.specs.declared.making.MakingFault.{MakingFault}
 use Rattle.kinds.specs.Kinds.{digits_made, gray_made, choose_made, door_made, stock_made, words_made, changes_made}
 use Rattle.joins.specs.Join.{join_made}
-use Rattle.faults.specs.Faults.{lined}
+use Rattle.faults.specs.Faults.{fault}
 use Rattle.faults.specs.declared.Cause.{Cause}
 use Rattle.faults.specs.declared.Cause.TheVariants.{Text, Names, Part as PartCause, Join as JoinCause}
 use Rattle.faults.specs.declared.PartFault.{PartFault}
@@ -45,7 +45,7 @@ each f (x ∷ xs) = then (f x) (λ y. then (each f xs) (λ ys. Ok (y ∷ ys)))
 -- a fault is told with its line
 abbrev pub on_line : {X E : Type 0} → (E → Cause) → ℕ → Result X E → Result X PlanFault
 on_line cause line (Ok x) = Ok x
-on_line cause line (Err e) = Err (lined (cause e) line)
+on_line cause line (Err e) = Err (fault (cause e) line)
 
 -- Lines
 
@@ -214,7 +214,7 @@ all_joined parts = joined_parts (slice_index_or parts 0 blank) (slice_index_or p
 
 -- the walk of a plan, or the first fault: of the text as a whole, of the names line, of a part, of a join
 abbrev pub plan_of_lines : Lines → Result Meaning PlanFault
-plan_of_lines lines = cond (bytes_eq lines.names (codes "kind,n,t,list")) (then (parts_made lines.parts) all_joined) (Err (lined Names 1))
+plan_of_lines lines = cond (bytes_eq lines.names (codes "kind,n,t,list")) (then (parts_made lines.parts) all_joined) (Err (fault Names 1))
 
 abbrev pub plan_of : List ℕ → Result Meaning PlanFault
-plan_of text = then (ok_or (lines_of_text text) (lined Text 0)) plan_of_lines
+plan_of text = then (ok_or (lines_of_text text) (fault Text 0)) plan_of_lines

@@ -3,7 +3,7 @@ ghost use Rattle.std.specs.Prelude.{◌≡◌, IfSome};
 ghost use Rattle.std.specs.Option.{option_map};
 ghost use Rattle.text.specs.Coming.{coming};
 ghost use Rattle.text.specs.Pieces.{pieces};
-ghost use Rattle.faults.specs.Faults.{lined};
+ghost use Rattle.faults.specs.Faults.{fault as lined};
 ghost use Rattle.plan.specs.Format.{lines_of_text, one_to_three, four_fields};
 ghost use Rattle.plan.specs.Reading.{lines_read, fields_read, OnLine};
 

@@ -2,7 +2,7 @@ use Rattle.std.proofs.cmp.Tests.{ltb_from_iff}
 use Rattle.std.proofs.Common.{true, false, map, length, Err, codes, sym, ap, ◌∙◌, inl}
 use Rattle.std.proofs.lemmas.Result.{err_from_is_err_and}
 use Rattle.kinds.specs.Kinds.{kind_meaning}
-use Rattle.faults.specs.Faults.{lined}
+use Rattle.faults.specs.Faults.{fault as lined}
 use Rattle.faults.specs.declared.Cause.TheVariants.{Names}
 use Rattle.plan.specs.Format.{then, all_joined}
 use Rattle.plan.specs.Reading.{plan_meaning}
