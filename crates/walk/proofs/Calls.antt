@@ -38,21 +38,21 @@ back_from_next m =
     ∙ ap (standing m) (omega arith)
 
 -- what `change` computes from the two rows that it read
-pub change_from_reads : (m up down : Meaning) (before_next next BeforeHere here : List ℕ) (width : ℕ) (s : Span) →
+pub change_from_reads : (m up down : Meaning) (before_next next before_here here : List ℕ) (width : ℕ) (s : Span) →
     Lawful m → Lawful up → width ≡ m.width → seeks m (m.place + 1) ≡ Ok tt → up ≡ after_seek m (m.place + 1) → down ≡ after_back up →
-    next ≡ after_read up before_next → here ≡ after_read down BeforeHere → 64 ≤ length before_next → 64 ≤ length BeforeHere →
+    next ≡ after_read up before_next → here ≡ after_read down before_here → 64 ≤ length before_next → 64 ≤ length before_here →
     s ≡ span_of (take width here) (take width next) → (Ok s ≡ changes m) × (down ≡ m)
-change_from_reads m up down before_next next BeforeHere here width s lawful LawfulUp w sought up_is down_is next_is here_is long_next long_here s_is =
+change_from_reads m up down before_next next before_here here width s lawful lawful_up w sought up_is down_is next_is here_is long_next long_here s_is =
     let below = sought_below m (m.place + 1) sought in
     let some = ltb-true (m.place + 1) (size m) below in
     let up_at : up ≡ standing m (m.place + 1) = up_is ∙ cond-true (ltb (m.place + 1) (size m)) (standing m (m.place + 1)) m below in
     let home : down ≡ m = down_is ∙ ap after_back up_at ∙ back_from_next m in
     let narrow = lawful.narrow in
-    let lawful_next = subst Lawful up_at LawfulUp in
+    let lawful_next = subst Lawful up_at lawful_up in
     let next_row : take width next ≡ row m (m.place + 1) =
     ap₂ take w (next_is ∙ ap (λ v. after_read v before_next) up_at)
     ∙ tray_begins (standing m (m.place + 1)) before_next lawful_next (omega arith) (omega arith) in
     let here_row : take width here ≡ row m m.place =
-    ap₂ take w (here_is ∙ ap (λ v. after_read v BeforeHere) home)
-    ∙ tray_begins m BeforeHere lawful (omega arith) (omega arith) in
+    ap₂ take w (here_is ∙ ap (λ v. after_read v before_here) home)
+    ∙ tray_begins m before_here lawful (omega arith) (omega arith) in
     (ap Ok (s_is ∙ ap₂ span_of here_row next_row) ∙ sym (cond-true (ltb (m.place + 1) (size m)) _ _ below), home)

@@ -71,6 +71,7 @@ pub trait Walk {
 
     // The lowest and the highest place at which the row at the place differs from the next one. It steps up and back
     // again to read both, and so stands in the end where it stood.
+    #[tactic(auto, using(crate::proofs::Calls::change_from_reads))]
     fn change(&mut self) -> Result<Span, Refusal>
         ensures answer { result ≡ changes (meaning self.old) }
         ensures same { meaning self.new ≡ meaning self.old }
