@@ -64,6 +64,6 @@ pub record Life (m : Meaning) (k : ℕ) (h : List Move) (says : Call → Answer)
       says (Take i tray) ≡ shown l' tray' →
       (1 ≤ differences (meaning.row m l) (meaning.row m l')) × (differences (meaning.row m l) (meaning.row m l') ≤ 2)
 
--- AllByRecursion of it holds after every list of calls, refused ones included.
+-- All of it holds after every list of calls, refused ones included.
 abbrev pub WholeLife : State → Type 0
 WholeLife s = (calls : List Call) → Life s.walk (printers s) (moves (history s calls)) (answer (state_after s calls))

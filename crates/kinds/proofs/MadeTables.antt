@@ -10,12 +10,14 @@ use Rattle.walk.specs.declared.making.MakingFault.TheVariants.{NoMemory}
 use Rattle.kinds.specs.Bins.{mosts, bins_of, bins_hold, capped, capped_ways}
 use Rattle.kinds.specs.Counts.{Tabled}
 use Rattle.kinds.specs.Kinds.{radices_fit, stocks_fit, choice_fits}
-use Rattle.kinds.specs.Lists.{product, ways, words, changes}
+use Rattle.kinds.specs.Lists.{product, ways, stock, door, words, changes}
 use Rattle.kinds.specs.Ranges.{all_between}
 use Rattle.kinds.specs.Shapes.{radices, mixed, levels_of, levels_hold, sums_hold}
 use Rattle.kinds.specs.declared.shape.Bin.{Bin}
 use Rattle.kinds.specs.declared.shape.Level.{Level}
 use Rattle.kinds.specs.Changes.{changes_length}
+use Rattle.kinds.specs.Stock.{stock_length}
+use Rattle.kinds.specs.Door.{door_length}
 use Rattle.kinds.specs.MixedRadix.{mixed_length}
 use Rattle.kinds.proofs.PlainChanges.{factorial_rises}
 use Rattle.kinds.specs.Radices.{radices_of_levels, length_levels, levels_of_hold}
@@ -116,6 +118,28 @@ pub ones_fitting : (n t : ℕ) → choice_fits n t ≡ true → StocksFit n t (r
 ones_fitting n t fit =
     let a = and_parts (leb n 32) _ fit in
     record { n_small = leb-true n 32 a.0; t_small = leb-true t 32 a.1; long = length-replicate n 1; all = between_replicate 0 32 1 n (omega arith) (omega arith) }
+
+-- the bins of a table of n stocks of 1, of which either order of the rows can be made
+pub record ChoiceTable (n t : ℕ) (bins : List Bin) (size : ℕ) : Type 0 where
+  pub holds : sums_hold bins t ≡ true
+  pub ones : (all_between 1 1 (mosts bins) && sums_hold bins t) ≡ true
+  pub same : mosts bins ≡ replicate n 1
+  pub rising : size ≡ length (stock (mosts bins) t)
+  pub revolving : size ≡ length (door (length (mosts bins)) t)
+  pub wide : length bins ≡ n
+
+pub choice_table : (n t : ℕ) (bins : List Bin) (size : ℕ) → choice_fits n t ≡ true → (bins ≡ bins_of (replicate n 1)) × (size ≡ ways (replicate n 1) t) → ChoiceTable n t bins size
+choice_table n t bins size fits told =
+    let fit = ones_fitting n t fits in
+    let table = sum_table (replicate n 1) t bins told.0 (omega (arith, fit.n_small, fit.long)) fit.all fit.t_small in
+    record {
+      holds = table.holds;
+      ones = and_from (all_between 1 1 (mosts bins)) _ (ap (all_between 1 1) table.same ∙ between_replicate 1 1 1 n (omega arith) (omega arith)) table.holds;
+      same = table.same;
+      rising = told.1 ∙ sym (stock_length (replicate n 1) t) ∙ ap (λ s. length (stock s t)) (sym table.same);
+      revolving = told.1 ∙ sym (door_length n t) ∙ ap (λ m. length (door m t)) (sym (ap length table.same ∙ fit.long));
+      wide = table.wide ∙ fit.long;
+    }
 
 -- orders that can be counted are of at most 12 values
 pub few_changes : (n : ℕ) → length (changes n) ≤ 4294967295 → n ≤ 12

@@ -1,5 +1,5 @@
 -- What each call of a walk answers, and what it leaves. Assumes nothing.
-use Rattle.std.specs.Prelude.{ℕ, ◌+◌, ◌-◌, cond, List, ◌++◌, drop, is_ok, Ok, Err, Result, ◌==◌, nat_lt}
+use Rattle.std.specs.Prelude.{ℕ, ◌+◌, ◌-◌, cond, List, ◌++◌, drop, is_ok, Ok, Err, Result, ◌==◌, nat_lt, length}
 use Rattle.std.specs.Option.{ok_or}
 use Rattle.walk.specs.Rows.{Row, label_of, lowest, highest}
 use Rattle.walk.specs.Meaning.{Meaning, size, row, standing}
@@ -29,7 +29,7 @@ after_back m = cond (m.place == 0) m (standing m (m.place - 1))
 
 -- `read` refuses where there are no rows, and then a tray that is shorter than a row.
 abbrev pub reads : Meaning → List ℕ → Result (Unit {0}) Refusal
-reads m tray = cond (size m == 0) (Err NoSuchLabel) (cond (nat_lt (lib.ListN.length tray) m.width) (Err ShortTray) (Ok tt))
+reads m tray = cond (size m == 0) (Err NoSuchLabel) (cond (nat_lt (length tray) m.width) (Err ShortTray) (Ok tt))
 
 -- A tray is memory that the caller provides for an answer: the row goes into its first bytes, and later ones stay.
 abbrev pub after_read : Meaning → List ℕ → List ℕ

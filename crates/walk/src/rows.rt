@@ -6,6 +6,7 @@ ghost use Rattle.walk.specs.Rows.{lowest, highest};
 use super::answers::Span;
 
 // The lowest place at which two rows of one width differ, or the width where they are the same.
+#[tactic(auto, using(crate::proofs::Differences::lowest_is, crate::proofs::Differences::lowest_none))]
 fn lowest_difference(a: &[u8], b: &[u8]) -> usize
     requires { length a.now ≡ length b.now }
     ensures { result ≡ lowest a.now b.now }
@@ -19,6 +20,7 @@ fn lowest_difference(a: &[u8], b: &[u8]) -> usize
 }
 
 // The highest place at which two rows of one width differ, or 0 where they are the same.
+#[tactic(auto, using(crate::proofs::Differences::highest_is, crate::proofs::Differences::highest_none))]
 fn highest_difference(a: &[u8], b: &[u8]) -> usize
     requires { length a.now ≡ length b.now }
     ensures { result ≡ highest a.now b.now }

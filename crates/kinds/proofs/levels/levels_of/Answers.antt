@@ -1,4 +1,4 @@
-use Rattle.std.proofs.Common.{◌+◌, ◌/◌, [], ◌∷◌, ◌++◌, drop, is_ok, sym, ap, ◌∙◌, ap₂, arith}
+use Rattle.std.proofs.Common.{◌+◌, ◌/◌, [], ◌∷◌, ◌++◌, drop, is_ok, sym, ap, ◌∙◌, ap₂, arith, get_or}
 use Rattle.std.proofs.ResultArms.{chosen}
 use Rattle.std.proofs.lemmas.List.{append-nil, at_drop_all}
 use Rattle.kinds.specs.Shapes.{levels_of}
@@ -18,7 +18,7 @@ loop-radix-preserved c =
     let rest = ap₂ ◌/◌ c.loop-radix.invariant.0 c.from-below.ensures ∙ rest_more radices i c.loop-radix-test.true c.requires.fit in
     let pushed = chosen _ _ _ _ c.push.ensures.items (ap is_ok c.in_ok-push.was) in (
       rest,
-      ap (λ ls. ls ++ levels_of (drop (i + 1) radices)) (pushed ∙ ap (λ n. c.loop-radix.levels.items ++ (record { radix = lib.ListN.get_or radices i 0; below = n } ∷ [])) rest)
+      ap (λ ls. ls ++ levels_of (drop (i + 1) radices)) (pushed ∙ ap (λ n. c.loop-radix.levels.items ++ (record { radix = get_or radices i 0; below = n } ∷ [])) rest)
           ∙ levels_more radices i c.loop-radix-test.true _ c.loop-radix.invariant.1,
     )
 

@@ -1,4 +1,4 @@
-use Rattle.std.proofs.Common.{ℕ, suc, ◌+◌, ◌-◌, get_or, ap, ◌∙◌, ap₂, add-one, arith}
+use Rattle.std.proofs.Common.{ℕ, suc, ◌+◌, ◌-◌, get_or, ap, ◌∙◌, ap₂, add-one, arith, sym}
 use Rattle.kinds.specs.Lists.{total}
 use Rattle.kinds.specs.RowSums.{total_more}
 use Rattle.kinds.proofs.sums.rows_before.Goals as goal
@@ -13,4 +13,4 @@ pub loop-w-preserved : goal.loop-w-preserved
 loop-w-preserved c =
     let ways = c.args.bin.now.ways in
     let count : ℕ → ℕ = λ w. get_or ways (c.args.left - w) 0 in
-    ap₂ ◌+◌ c.loop-w.invariant (ap (λ i. get_or ways i 0) c.from.ensures) ∙ ap (λ n. total n count) (mathlib.Core.Path.sym (add-one c.loop-w.w))
+    ap₂ ◌+◌ c.loop-w.invariant (ap (λ i. get_or ways i 0) c.from.ensures) ∙ ap (λ n. total n count) (sym (add-one c.loop-w.w))

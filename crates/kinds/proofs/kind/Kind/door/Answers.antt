@@ -1,15 +1,13 @@
-use Rattle.std.proofs.Common.{ℕ, true, List, length, replicate, vec_items, sym, refl, ap, ◌∙◌, subst, arith}
+use Rattle.std.proofs.Common.{rules, true, length, replicate, vec_items, sym, refl, ap, ◌∙◌, subst}
+use lib.ListN.{length-replicate}
 use Rattle.std.proofs.lemmas.Result.{err_from_is_err_and, IfOk-from_err}
 use Rattle.kinds.specs.Kinds.{kind_meaning}
 use Rattle.kinds.proofs.Made.{fault_goes_on, walk_of_table}
 use Rattle.kinds.specs.Kinds.{choice_fits}
 use Rattle.kinds.specs.Laws.{DoorLaws}
 use Rattle.kinds.specs.Lists.{ways, door}
-use Rattle.kinds.specs.Bins.{mosts}
-use Rattle.kinds.specs.Ranges.{all_between}
-use Rattle.std.proofs.lemmas.Bool.{and_from}
 use Rattle.kinds.specs.Door.{door_length, door_laws}
-use Rattle.kinds.proofs.MadeTables.{SumRows, ones_fitting, sum_table, between_replicate}
+use Rattle.kinds.proofs.MadeTables.{SumRows, choice_table}
 use Rattle.kinds.specs.declared.shape.Shape.TheVariants.{Door}
 use Rattle.kinds.proofs.kind.Kind.door.Goals as goal
 
@@ -23,26 +21,23 @@ returns-in_err-bins c =
       laws = IfOk-from_err c.from_residual.result _ back.0;
     }
 
+-- what a shape with this table asks, of either order of its rows
 pub new-requires : goal.new-requires
 new-requires c =
-    let n = c.args.n in let t = c.args.t in
-    let told = c.in_ok-bins.ensures in
-    let fit = ones_fitting n t told.0 in
-    let bins = vec_items c.in_ok-bins.bins in
-    let stocks : List ℕ = replicate n 1 in
-    let table = sum_table stocks t bins told.2.0 (omega (arith, fit.n_small, fit.long)) fit.all fit.t_small in
-    record { holds = and_from (all_between 1 1 (mosts bins)) _ (ap (all_between 1 1) table.same ∙ between_replicate 1 1 1 n (omega arith) (omega arith)) table.holds; counted = told.2.1 ∙ sym (door_length n t) ∙ ap (λ m. length (door m t)) (sym (ap length table.same ∙ fit.long)); wide = c.from.ensures ∙ sym (table.wide ∙ fit.long) }
+    let table = choice_table c.args.n c.args.t (vec_items c.in_ok-bins.bins) c.in_ok-bins.size c.in_ok-bins.ensures.0 c.in_ok-bins.ensures.2 in
+    let plain = table.holds in
+    let ones = table.ones in
+    let rising = table.rising in
+    let revolving = table.revolving in
+    record { holds = search rules; counted = search rules; wide = c.from.ensures ∙ sym table.wide }
 
 pub returns : goal.returns
 returns c =
     let n = c.args.n in let t = c.args.t in
     let told = c.in_ok-bins.ensures in
-    let fit = ones_fitting n t told.0 in
-    let bins = vec_items c.in_ok-bins.bins in
-    let stocks : List ℕ = replicate n 1 in
-    let table = sum_table stocks t bins told.2.0 (omega (arith, fit.n_small, fit.long)) fit.all fit.t_small in
-    let same = ap (λ m. door m t) (ap length table.same ∙ fit.long) in
+    let table = choice_table n t (vec_items c.in_ok-bins.bins) c.in_ok-bins.size told.0 told.2 in
+    let same = ap (λ m. door m t) (ap length table.same ∙ length-replicate n 1) in
     record {
-      made = walk_of_table (SumRows (replicate n 1) t) kind_meaning (choice_fits n t) (door n t) (n) true (ways (replicate n 1) t) (door_length n t) (c.in_ok-bins.bins, c.in_ok-bins.size) c.new.result (Door c.in_ok-bins.bins t) told c.new.ensures same (table.wide ∙ fit.long) refl;
+      made = walk_of_table (SumRows (replicate n 1) t) kind_meaning (choice_fits n t) (door n t) (n) true (ways (replicate n 1) t) (door_length n t) (c.in_ok-bins.bins, c.in_ok-bins.size) c.new.result (Door c.in_ok-bins.bins t) told c.new.ensures same table.wide refl;
       laws = subst (λ m. DoorLaws n t m.rows) (sym c.new.ensures) (subst (DoorLaws n t) (sym same) (door_laws n t));
     }

@@ -1,4 +1,4 @@
-use Rattle.std.proofs.Common.{true, vec_items, sym, refl, ap, subst}
+use Rattle.std.proofs.Common.{rules, false, true, vec_items, sym, refl, ap, subst}
 use Rattle.std.proofs.lemmas.Result.{err_from_is_err_and, IfOk-from_err}
 use Rattle.kinds.specs.Kinds.{kind_meaning}
 use Rattle.kinds.proofs.Made.{fault_goes_on, walk_of_table}
@@ -20,13 +20,16 @@ returns-in_err-levels c =
       laws = IfOk-from_err c.from_residual.result _ back.0;
     }
 
+-- what a shape with this table asks, of either order of its rows
 pub new-requires : goal.new-requires
 new-requires c =
     let n = c.args.n in let list = c.args.list.now in
     let told = c.in_ok-levels.ensures in
     let levels = vec_items c.in_ok-levels.levels in
     let table = radix_table n list levels told.0 told.2.0 in
-    record { holds = table.holds; counted = radix_count true list levels c.in_ok-levels.size table.same told.2.1; wide = table.wide }
+    let rising = radix_count false list levels c.in_ok-levels.size table.same told.2.1 in
+    let reflected = radix_count true list levels c.in_ok-levels.size table.same told.2.1 in
+    record { holds = table.holds; counted = search rules; wide = table.wide }
 
 pub returns : goal.returns
 returns c =

@@ -1,4 +1,4 @@
-use Rattle.std.proofs.Common.{sym, ap, ◌∙◌}
+use Rattle.std.proofs.Common.{sym, ap, ◌∙◌, length}
 use Rattle.std.specs.Option.{ok_or}
 use Rattle.walk.proofs.Differences.{label_of_missing}
 use Rattle.walk.specs.declared.answers.Refusal.TheVariants.{NoSuchRow}
@@ -10,4 +10,4 @@ use Rattle.kinds.proofs.kind.walking.KindWalk.find.Goals as goal
 pub returns-then-row-self : goal.returns-then-row-self
 returns-then-row-self c =
     let k = c.args.self.now in
-    sym (ap (λ label. ok_or label NoSuchRow) (label_of_missing (rows_of k.shape) c.args.row.now (λ i lt is. c.if-row-self.true (sym (ap lib.ListN.length is) ∙ (kind_lawful k).wide i lt ∙ sym k.wide))))
+    sym (ap (λ label. ok_or label NoSuchRow) (label_of_missing (rows_of k.shape) c.args.row.now (λ i lt is. c.if-row-self.true (sym (ap length is) ∙ (kind_lawful k).wide i lt ∙ sym k.wide))))
