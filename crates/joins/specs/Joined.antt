@@ -1,6 +1,6 @@
 -- Where the rows of a join stand. Assumes nothing.
 use Rattle.std.specs.Prelude.{◌≡◌, ℕ, zero, suc, ◌+◌, ◌*◌, ◌/◌, ◌%◌, ◌<◌, Bool, ◌&&◌, List, [], ◌∷◌, ◌++◌, map, length, refl}
-use Rattle.std.proofs.Common.{sym, ap, ap₂, subst, ◌∙◌, ⊎_elim, arith, zero-add, zero-mul, mul-zero, suc-mul, take, drop}
+use Rattle.std.proofs.Common.{sym, ap, ap₂, subst, ◌∙◌, ⊎_elim, arith, zero-add, zero-mul, mul-zero, suc-mul}
 use Rattle.std.proofs.lemmas.Nat.{div_below, mod_below, div-add-mod', mul-add-lt}
 use Rattle.std.proofs.lemmas.List.{length-append, length-map, get_or_append_left, get_or-append-add, get_or-map, take_at, drop_at}
 use Rattle.std.proofs.lemmas.Bool.{cases_lt}
@@ -100,6 +100,6 @@ pair_at swing m n label lt =
 -- rows of one width that are followed by others are the same where the whole rows are, and so are those that follow
 pub parts_same : (a b c d : Row) → length a ≡ length c → a ++ b ≡ c ++ d → (a ≡ c) × (b ≡ d)
 parts_same a b c d long e = (
-  sym (take_at a b (length a) refl) ∙ ap (take (length a)) e ∙ take_at c d (length a) (sym long),
-  sym (drop_at a b (length a) refl) ∙ ap (drop (length a)) e ∙ drop_at c d (length a) (sym long),
+  sym (take_at a b (length a) refl) ∙ ap (lib.ListN.take (length a)) e ∙ take_at c d (length a) (sym long),
+  sym (drop_at a b (length a) refl) ∙ ap (lib.ListN.drop (length a)) e ∙ drop_at c d (length a) (sym long),
 )

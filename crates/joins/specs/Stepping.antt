@@ -1,6 +1,6 @@
 -- One step up or down, in a walk and in the labels of a join. Assumes nothing.
 use Rattle.std.specs.Prelude.{◌≡◌, ℕ, suc, ◌+◌, ◌-◌, ◌*◌, ◌<◌, ◌≤◌, Bool, true, false, cond, not, ◌⊎◌, is_ok, Ok, Err, refl}
-use Rattle.std.proofs.Common.{sym, ap, ◌∙◌, inl, inr, ⊎_elim, arith, add-one, zero-mul}
+use Rattle.std.proofs.Common.{sym, ap, ◌∙◌, inl, inr, ⊎_elim, arith, add-one}
 use Rattle.std.specs.Bool.{beq}
 use native.Mathlib.Nat.{suc-mul}
 use Rattle.std.proofs.lemmas.Bool.{cases_lt, both_ways}
@@ -105,7 +105,7 @@ left_steps false n i h j k some to last first = rw (to ∙ add-one i) (omega (ar
 
 -- where neither walk can step, the join can not
 pub join_ends : (down : Bool) (m n i j : ℕ) → i < m → 0 < n → AtEnd down m i → j ≡ cond down 0 (n - 1) → AtEnd down (m * n) (i * n + j)
-join_ends true m n i j lt some end first = rw (end, first) (omega (arith, zero-mul n))
+join_ends true m n i j lt some end first = rw (end, first) (omega (arith, native.Mathlib.Nat.zero-mul n))
 join_ends false m n i j lt some end last =
     let is : m ≡ suc i = omega arith in
     rw is (omega (arith, suc-mul i n))
