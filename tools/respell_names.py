@@ -124,6 +124,38 @@ def turn_source(text, own):
     return "\n".join(out)
 
 
+def turn_antt(path, text, own, taken):
+    """A file of specs/ or proofs/: with the declared names, those that are local to it."""
+    answers = answers_goals(path)
+    made = goals_and_steps(text) if answers else set()
+    words = {w for line in text.split("\n") for w in KEBAB.findall(code(line))}
+    imported = {w.strip().split(" as ")[-1] for m in re.finditer(r"^use [^\n]*\{([^}]*)\}", text, re.M) for w in m[1].split(",")}
+    local = {w for w in words if w not in own and w not in imported and w not in made and w not in taken}
+    if answers:
+        local &= set(re.findall(r"\blet ([A-Za-z][\w']*(?:-[\w']+)+)", text))
+    clash = {w for w in local if re.search(r"(?<![\w'\-])" + re.escape(respelt(w)) + r"(?![\w'\-])", text)}
+    if clash:
+        print(f"look: {path}: left, since the new name stands there: {' '.join(sorted(clash))}")
+    return turn(text, own, local - clash, made)
+
+
+def turn_page(text, own):
+    return re.sub(r"`([A-Za-z][\w'\-]*)`", lambda m: "`" + respelt(m[1]) + "`" if m[1] in own else m[0], text)
+
+
+def rewrite(paths, turned):
+    """Writes each file whose text turns into another, and counts them."""
+    count = 0
+    for path in paths:
+        text = read(path)
+        new = turned(path, text)
+        if new != text:
+            count += 1
+            with open(path, "w", encoding="utf-8") as f:
+                f.write(new)
+    return count
+
+
 def main(argv):
     library = argv[0] if argv else "/opt/rattle/rattle"
     antt = list(files("crates", ".antt"))
@@ -148,39 +180,9 @@ def main(argv):
     if bad:
         print("\n".join(bad))
         return 1
-    turned = 0
-    for p in antt:
-        text = read(p)
-        answers = answers_goals(p)
-        made = goals_and_steps(text) if answers else set()
-        words = {w for line in text.split("\n") for w in KEBAB.findall(code(line))}
-        imported = {w.strip().split(" as ")[-1] for m in re.finditer(r"^use [^\n]*\{([^}]*)\}", text, re.M) for w in m[1].split(",")}
-        local = {w for w in words if w not in own and w not in imported and w not in made and w not in taken}
-        if answers:
-            bound = set(re.findall(r"\blet ([A-Za-z][\w']*(?:-[\w']+)+)", text))
-            local &= bound
-        clash = {w for w in local if re.search(r"(?<![\w'\-])" + re.escape(respelt(w)) + r"(?![\w'\-])", text)}
-        if clash:
-            print(f"look: {p}: left, since the new name stands there: {' '.join(sorted(clash))}")
-        new = turn(text, own, local - clash, made)
-        if new != text:
-            turned += 1
-            with open(p, "w", encoding="utf-8") as f:
-                f.write(new)
-    for p in files("crates", ".rt"):
-        text = read(p)
-        new = turn_source(text, own)
-        if new != text:
-            turned += 1
-            with open(p, "w", encoding="utf-8") as f:
-                f.write(new)
-    for p in files("docs", ".md"):
-        text = read(p)
-        new = re.sub(r"`([A-Za-z][\w'\-]*)`", lambda m: "`" + respelt(m[1]) + "`" if m[1] in own else m[0], text)
-        if new != text:
-            turned += 1
-            with open(p, "w", encoding="utf-8") as f:
-                f.write(new)
+    turned = rewrite(antt, lambda p, text: turn_antt(p, text, own, taken))
+    turned += rewrite(files("crates", ".rt"), lambda p, text: turn_source(text, own))
+    turned += rewrite(files("docs", ".md"), lambda p, text: turn_page(text, own))
     print(f"{len(own)} names, {turned} files")
     return 0
 
