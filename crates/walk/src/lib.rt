@@ -10,7 +10,7 @@ ghost use Rattle.walk.specs.Meaning.{Meaning, Lawful, size};
 ghost use Rattle.walk.specs.Answers.{seeks, after_seek, backs, after_back, reads, after_read, finds, changes};
 
 use answers::{Refusal, Span};
-use rows::span;
+use rows::RowPair;
 
 pub trait Walk {
     // what the walk means: its rows, their width, the place at which it stands, and its answer to `steady`
@@ -77,13 +77,18 @@ pub trait Walk {
         ensures same { meaning self.new ≡ meaning self.old }
     {
         let width = self.width();
+        // Two arrays, since `change` asks for no memory from outside: no row is wider than 64.
         let mut next = [0u8; 64];
         let mut here = [0u8; 64];
         self.advance()?;
         self.read(&mut next)?;
         self.back()?;
         self.read(&mut here)?;
-        Ok(span(&here[0..width], &next[0..width]))
+        let rows = RowPair {
+            here: &here[0..width],
+            next: &next[0..width],
+        };
+        Ok(rows.span())
     }
 
     ghost lawful: { (w : Self) → Lawful (meaning w) };

@@ -1,4 +1,4 @@
-// Why a walk could not be made.
+// Why a walk could not be made, and what a refused making gives back.
 ghost use Rattle.std.specs.Prelude.{◌≡◌};
 ghost use Rattle.walk.specs.Making.{making_number};
 ghost use Rattle.walk.specs.declared.making.MakingFault.TheVariants.{NoMemory};
@@ -42,4 +42,11 @@ impl<T: Drop> From<AllocFailed<T>> for MakingFault {
     fn from(_e: AllocFailed<T>) -> MakingFault {
         Self::from(AllocError)
     }
+}
+
+// Why nothing was made, and what was handed over, as it was.
+#[derive(Drop)]
+pub struct Refused<F, W> {
+    pub fault: F,
+    pub kept: W,
 }
