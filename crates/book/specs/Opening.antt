@@ -1,10 +1,10 @@
 -- Opening a book. Assumes nothing.
 use Rattle.std.specs.Prelude.{◌≡◌, ℕ, true, cond, ◌&&◌, [], is_ok, Ok, Err, Result, nat_le}
 use Rattle.walk.specs.Meaning.{Meaning, size}
+use Rattle.walk.specs.declared.making.Refused.{Refused}
 use Rattle.book.specs.Lanes.{opened_lanes}
 use Rattle.book.specs.State.{State, state}
 use Rattle.book.specs.declared.book.Book.{Book}
-use Rattle.book.specs.declared.book.OpeningRefused.{OpeningRefused}
 use Rattle.book.specs.declared.refusal.OpeningFault.{OpeningFault}
 use Rattle.book.specs.declared.refusal.OpeningFault.TheVariants.{NumberOfPrinters, NoMemory}
 
@@ -22,6 +22,6 @@ Refuses given NumberOfPrinters = given ≡ Err NumberOfPrinters
 Refuses given NoMemory = is_ok given ≡ true
 
 -- It answers the book that opening gives, or the fault, and with it the walk as it was.
-abbrev pub Opens : {W : Type 0} → (W → Meaning) → W → ℕ → Result (Book W) (OpeningRefused W) → Type 0
+abbrev pub Opens : {W : Type 0} → (W → Meaning) → W → ℕ → Result (Book W) (Refused OpeningFault W) → Type 0
 Opens meaning walk k (Ok b) = opens (meaning walk) k ≡ Ok (state meaning b)
-Opens meaning walk k (Err e) = Refuses (opens (meaning walk) k) e.fault × (e.walk ≡ walk)
+Opens meaning walk k (Err e) = Refuses (opens (meaning walk) k) e.fault × (e.kept ≡ walk)

@@ -5,13 +5,14 @@ ghost use Rattle.book.specs.Opening.{Opens};
 ghost use Rattle.book.specs.State.{state};
 ghost use Rattle.book.specs.WholeLife.{WholeLife};
 
-use super::book::{Book, OpeningRefused};
+use super::book::Book;
 use super::lane::Lane;
 use super::ledger::Ledger;
 use super::refusal::OpeningFault;
 use std::alloc::{AllocError, Global};
 use std::collections::VecDeque;
 use walk::Walk;
+use walk::making::Refused;
 
 // Where the lane of printer i begins; that of printer k is where the last one ends.
 fn lane_start(rows: u32, printers: usize, i: usize) -> u32
@@ -55,21 +56,21 @@ impl Ledger {
 
 impl<W: Walk> Book<W> {
     // A book on the walk, with so many printers. A refusal opens no book and gives the walk back as it was.
-    pub fn open(walk: W, printers: usize, heap: Global) -> Result<Book<W>, OpeningRefused<W>>
+    pub fn open(walk: W, printers: usize, heap: Global) -> Result<Book<W>, Refused<OpeningFault, W>>
         ensures answer { Opens W.Walk.meaning walk printers result }
         ensures life { IfOk result (λ b. WholeLife (state W.Walk.meaning b)) }
     {
         if printers < 1 || printers > 16 {
-            return Err(OpeningRefused {
+            return Err(Refused {
                 fault: OpeningFault::NumberOfPrinters,
-                walk,
+                kept: walk,
             });
         }
         match Ledger::open(walk.size(), printers, heap) {
             Ok(ledger) => Ok(Book { walk, ledger }),
-            Err(_) => Err(OpeningRefused {
+            Err(_) => Err(Refused {
                 fault: OpeningFault::NoMemory,
-                walk,
+                kept: walk,
             }),
         }
     }

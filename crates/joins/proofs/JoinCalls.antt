@@ -12,13 +12,13 @@ use Rattle.walk.specs.Meaning.{Meaning, Lawful, size, row, standing}
 use Rattle.walk.specs.Answers.{seeks, after_seek, reads, after_read, finds}
 use Rattle.walk.specs.declared.answers.Refusal.{Refusal}
 use Rattle.walk.specs.declared.answers.Refusal.TheVariants.{NoSuchLabel, NoSuchRow}
-use Rattle.joins.specs.Steps.{steps, after_step}
+use Rattle.joins.specs.Steps.{right_way, steps, after_step}
 use Rattle.joins.specs.Join.{mirrored, joined_label, join_size, join_of, join_place, joined, join_made, unless_refused}
 use Rattle.joins.specs.declared.fault.JoinFault.{JoinFault}
 use Rattle.walk.proofs.Cases.{seek_in, read_row, first_place, found, lost, finds_label, finds_none}
 use Rattle.joins.specs.JoinLaws.{Fits, fits_cases, turns_over, join_of_size, join_of_row, join_lawful}
 use Rattle.joins.specs.Joined.{pair_at, label_below, factors_some}
-use Rattle.joins.specs.Stepping.{StepsTo, AtEnd, way, step_in, step_out, step_accepted, odd_step, right_steps, right_ends, turned_ends, left_steps, join_ends}
+use Rattle.joins.specs.Stepping.{StepsTo, AtEnd, step_in, step_out, step_none, step_accepted, step_refused, odd_step, right_steps, right_ends, turned_ends, left_steps, join_ends}
 
 -- a join that has rows
 pub record SomeRows (swing : Bool) (a b : Meaning) : Type 0 where
@@ -186,15 +186,15 @@ module _ (swing : Bool) (a b : Meaning) where
         (goes.0, goes.1 ∙ sym (pair_standing h k))
 
     -- the right walk steps
-    pub join_steps_right : (down : Bool) → is_ok (steps (way (swing && odd a.place) down) b) ≡ true →
-        (steps down (joined swing a b) ≡ Ok tt) × (after_step down (joined swing a b) ≡ joined swing a (after_step (way (swing && odd a.place) down) b))
+    pub join_steps_right : (down : Bool) → is_ok (steps (right_way (swing && odd a.place) down) b) ≡ true →
+        (steps down (joined swing a b) ≡ Ok tt) × (after_step down (joined swing a b) ≡ joined swing a (after_step (right_way (swing && odd a.place) down) b))
     join_steps_right down ok =
         let back = swing && odd a.place in
-        let to = step_accepted (way back down) b right_inside ok in
+        let to = step_accepted (right_way back down) b right_inside ok in
         let goes = join_goes down a.place to.0 left_inside to.1 (right_steps down back (size b) (a.place * size b) b.place to.0 right_inside to.1 to.2) in
-        (goes.0, goes.1 ∙ sym (ap (joined swing a) (step_in (way back down) b to.0 to.2 to.1).1))
+        (goes.0, goes.1 ∙ sym (ap (joined swing a) (step_in (right_way back down) b to.0 to.2 to.1).1))
 
-    module _ (down : Bool) (end : AtEnd (way (swing && odd a.place) down) (size b) b.place) where
+    module _ (down : Bool) (end : AtEnd (right_way (swing && odd a.place) down) (size b) b.place) where
       -- neither walk can step
       pub join_stays : AtEnd down (size a) a.place → (steps down (joined swing a b) ≡ Err NoSuchLabel) × (after_step down (joined swing a b) ≡ joined swing a b)
       join_stays last =
@@ -220,3 +220,69 @@ module _ (swing : Bool) (a b : Meaning) where
           let first : mirrored (swing && odd h) (size b) start ≡ start = ap (λ t. mirrored (t && odd h) (size b) start) plain in
           join_goes down h start hh (start_below down (size b) rows.some_right)
           (left_steps down (size b) a.place h (mirrored back (size b) b.place) (mirrored (swing && odd h) (size b) start) rows.some_right to (right_ends down back (size b) b.place right_inside end) first)
+
+-- What `step` of a join computes, as its code goes. A join without rows refuses,
+pub step_without_rows : (swing : Bool) (a b : Meaning) (down : Bool) → Lawful a → Lawful b → size (joined swing a b) ≡ 0 →
+    (Err NoSuchLabel ≡ steps down (joined swing a b)) × (joined swing a b ≡ after_step down (joined swing a b))
+step_without_rows swing a b down lawful_a lawful_b none =
+    let stays = step_none down (joined swing a b) (join_lawful swing a b lawful_a lawful_b) none in
+    (sym stays.0, sym stays.1)
+
+-- The right walk was told to go its way d, answered, and is b' now.
+pub record RightStep (swing : Bool) (a b b' : Meaning) (down ok : Bool) : Type 0 where
+  pub some : 0 < size (joined swing a b)
+  pub answer : is_ok (steps (right_way (swing && odd a.place) down) b) ≡ ok
+  pub after : b' ≡ after_step (right_way (swing && odd a.place) down) b
+
+pub right_step : (swing : Bool) (a b b' : Meaning) (down ok : Bool) → 0 < size (joined swing a b) → (p : ℕ) (back d : Bool) → p ≡ a.place → back ≡ (swing && odd p) → d ≡ right_way back down →
+    is_ok (steps d b) ≡ ok → b' ≡ after_step d b → RightStep swing a b b' down ok
+right_step swing a b b' down ok some p back d p_is back_is d_is answer after =
+    let is : d ≡ right_way (swing && odd a.place) down = d_is ∙ ap (λ t. right_way t down) (back_is ∙ ap (λ i. swing && odd i) p_is) in
+    record { some = some; answer = sym (ap (λ t. is_ok (steps t b)) is) ∙ answer; after = after ∙ ap (λ t. after_step t b) is }
+
+module _ (swing : Bool) (a b b' : Meaning) (down : Bool) (lawful_a : Lawful a) (lawful_b : Lawful b) where
+  -- it is one step with a right walk that can step;
+  pub step_of_right : RightStep swing a b b' down true → (Ok tt ≡ steps down (joined swing a b)) × (joined swing a b' ≡ after_step down (joined swing a b))
+  step_of_right right =
+      let goes = join_steps_right swing a b lawful_a lawful_b (some_rows swing a b right.some) down right.answer in
+      (sym goes.0, ap (joined swing a) right.after ∙ sym goes.1)
+
+  module _ (right : RightStep swing a b b' down false) where
+    right_end : AtEnd (right_way (swing && odd a.place) down) (size b) b.place
+    right_end = step_refused (right_way (swing && odd a.place) down) b (right_inside swing a b lawful_a lawful_b (some_rows swing a b right.some)) right.answer
+
+    -- where it cannot, it stays,
+    pub right_stays : b' ≡ b
+    right_stays = right.after ∙ (step_out (right_way (swing && odd a.place) down) b right_end).1
+
+    -- and has rows;
+    pub right_some : 0 < size b'
+    right_some = omega (arith, ap size right_stays, (some_rows swing a b right.some).some_right)
+
+    -- where the left walk cannot step either, the join refuses;
+    pub step_of_none : (a' : Meaning) (why : Refusal) → Err why ≡ steps down a → a' ≡ after_step down a →
+        (Err why ≡ steps down (joined swing a b)) × (joined swing a' b' ≡ after_step down (joined swing a b))
+    step_of_none a' why told after =
+        let rows = some_rows swing a b right.some in
+        let last = step_refused down a (left_inside swing a b lawful_a lawful_b rows) (sym (ap is_ok told)) in
+        let left = step_out down a last in
+        let none = join_stays swing a b lawful_a lawful_b rows down right_end last in
+        (told ∙ left.0 ∙ sym none.0, ap₂ (joined swing) (after ∙ left.1) right_stays ∙ sym none.1)
+
+    -- and where the left walk steps, in `odometer` the right one begins again,
+    pub step_carried : (a' b'' : Meaning) → swing ≡ false → Ok tt ≡ steps down a → a' ≡ after_step down a → b'' ≡ standing b' (cond down (size b' - 1) 0) →
+        (Ok tt ≡ steps down (joined swing a b)) × (joined swing a' b'' ≡ after_step down (joined swing a b))
+    step_carried a' b'' plain told after begun =
+        let rows = some_rows swing a b right.some in
+        let to = step_accepted down a (left_inside swing a b lawful_a lawful_b rows) (sym (ap is_ok told)) in
+        let goes = join_carries swing a b lawful_a lawful_b rows down right_end plain to.0 to.1 to.2 in
+        (sym goes.0, ap₂ (joined swing) (after ∙ (step_in down a to.0 to.2 to.1).1) (begun ∙ ap (λ m. standing m (cond down (size m - 1) 0)) right_stays) ∙ sym goes.1)
+
+    -- while in `swing` it stays.
+    pub step_turned : (a' : Meaning) → swing ≡ true → Ok tt ≡ steps down a → a' ≡ after_step down a →
+        (Ok tt ≡ steps down (joined swing a b)) × (joined swing a' b' ≡ after_step down (joined swing a b))
+    step_turned a' swings told after =
+        let rows = some_rows swing a b right.some in
+        let to = step_accepted down a (left_inside swing a b lawful_a lawful_b rows) (sym (ap is_ok told)) in
+        let goes = join_turns swing a b lawful_a lawful_b rows down right_end swings to.0 to.1 to.2 in
+        (sym goes.0, ap₂ (joined swing) (after ∙ (step_in down a to.0 to.2 to.1).1) right_stays ∙ sym goes.1)

@@ -4,10 +4,10 @@ use Rattle.walk.specs.Making.{new_walk}
 use Rattle.walk.specs.Meaning.{Meaning, size, standing}
 use Rattle.walk.specs.Rows.{Row, turned, odd}
 use Rattle.walk.specs.declared.making.MakingFault.TheVariants.{TooManyRows}
+use Rattle.walk.specs.declared.making.Refused.{Refused}
 use Rattle.joins.specs.declared.fault.JoinFault.{JoinFault}
 use Rattle.joins.specs.declared.fault.JoinFault.TheVariants.{Making, TooWide}
 use Rattle.joins.specs.declared.join.Join.{Join}
-use Rattle.joins.specs.declared.join.JoinRefused.{JoinRefused}
 use Rattle.joins.specs.declared.join.Order.{Order}
 use Rattle.joins.specs.declared.join.Order.TheVariants.{Odometer, Swing}
 
@@ -63,8 +63,8 @@ abbrev pub join_meaning : {L R : Type 0} → (L → Meaning) → (R → Meaning)
 join_meaning left_meaning right_meaning j = joined (swings j.order) (left_meaning j.left) (right_meaning j.right)
 
 -- The maker answers the walk that making gives, or the fault, and with it both walks as they were.
-abbrev pub Joins : {L R : Type 0} → (L → Meaning) → (R → Meaning) → Bool → L → R → Result (Join L R) (JoinRefused L R) → Type 0
+abbrev pub Joins : {L R : Type 0} → (L → Meaning) → (R → Meaning) → Bool → L → R → Result (Join L R) (Refused JoinFault (L × R)) → Type 0
 Joins left_meaning right_meaning swing left right (Ok j) =
     join_made swing (left_meaning left) (right_meaning right) ≡ Ok (join_meaning left_meaning right_meaning j)
 Joins left_meaning right_meaning swing left right (Err e) =
-    (join_made swing (left_meaning left) (right_meaning right) ≡ Err e.fault) × (e.left ≡ left) × (e.right ≡ right)
+    (join_made swing (left_meaning left) (right_meaning right) ≡ Err e.fault) × (e.kept.0 ≡ left) × (e.kept.1 ≡ right)

@@ -12,7 +12,8 @@ use Rattle.joins.specs.Join.{joined_rows, mirrored, joined_label, join_size, joi
 use Rattle.joins.specs.declared.fault.JoinFault.{JoinFault}
 use Rattle.joins.specs.declared.fault.JoinFault.TheVariants.{Making, TooWide}
 use Rattle.joins.specs.Joined.{length_joined, joined_at, label_below, Pair, pair_at, parts_same}
-use Rattle.joins.specs.Stepping.{StepsTo, AtEnd, way, step_cases, odd_step, right_steps, right_ends, turned_ends, left_steps, join_ends}
+use Rattle.joins.specs.Steps.{right_way}
+use Rattle.joins.specs.Stepping.{StepsTo, AtEnd, step_cases, odd_step, right_steps, right_ends, turned_ends, left_steps, join_ends}
 
 -- two walks that can be joined
 pub record Fits (a b : Meaning) : Type 0 where
@@ -116,20 +117,20 @@ module _ (swing : Bool) (a b : Meaning) where
     swing_steps : swing ≡ true → a.steady ≡ true → b.steady ≡ true → (label : ℕ) → label + 1 < size (join_of swing a b) → Near (join_of swing a b) label
     swing_steps swings steady_a steady_b label lt =
         let p = join_of_pair label (omega arith) in
-        ⊎_elim (within p) (across p) (step_cases (way (swing && odd p.left) false) (size b) p.right p.right_below)
+        ⊎_elim (within p) (across p) (step_cases (right_way (swing && odd p.left) false) (size b) p.right p.right_below)
       where
         next : (p : Pair swing (size a) (size b) label) (h k : ℕ) → h < size a → k < size b → StepsTo false (joined_label swing (size b) p.left p.right) (joined_label swing (size b) h k) →
             row (join_of swing a b) (label + 1) ≡ row a h ++ row b k
         next p h k hh hk to = join_of_row (label + 1) (record { left = h; right = k; left_below = hh; right_below = hk; is = ap (λ x. x + 1) p.is ∙ sym to })
 
-        within : (p : Pair swing (size a) (size b) label) → ((k : ℕ) × (k < size b) × StepsTo (way (swing && odd p.left) false) p.right k) → Near (join_of swing a b) label
+        within : (p : Pair swing (size a) (size b) label) → ((k : ℕ) × (k < size b) × StepsTo (right_way (swing && odd p.left) false) p.right k) → Near (join_of swing a b) label
         within p (k, hk, to) =
             let back = swing && odd p.left in
             let there = next p p.left k p.left_below hk (right_steps false back (size b) (p.left * size b) p.right k p.right_below hk to) in
             rw (join_of_row label p, there, differences_front (row a p.left) (row b p.right) (row b k))
-            (steady_step b lawful_b steady_b (way back false) p.right k p.right_below hk to)
+            (steady_step b lawful_b steady_b (right_way back false) p.right k p.right_below hk to)
 
-        turn : (p : Pair swing (size a) (size b) label) → AtEnd (way (swing && odd p.left) false) (size b) p.right → ((h : ℕ) × (h < size a) × StepsTo false p.left h) → Near (join_of swing a b) label
+        turn : (p : Pair swing (size a) (size b) label) → AtEnd (right_way (swing && odd p.left) false) (size b) p.right → ((h : ℕ) × (h < size a) × StepsTo false p.left h) → Near (join_of swing a b) label
         turn p end (h, hh, to) =
             let back = swing && odd p.left in
             let turns = turns_over swing p.left h swings (odd_step false p.left h to) in
@@ -139,13 +140,13 @@ module _ (swing : Bool) (a b : Meaning) where
             rw (join_of_row label p, there, differences_end (row a p.left) (row a h) (row b p.right) (lawful_a.wide p.left p.left_below ∙ sym (lawful_a.wide h hh)))
             (steady_step a lawful_a steady_a false p.left h p.left_below hh to)
 
-        past : (p : Pair swing (size a) (size b) label) → AtEnd (way (swing && odd p.left) false) (size b) p.right → AtEnd false (size a) p.left → ⊥
+        past : (p : Pair swing (size a) (size b) label) → AtEnd (right_way (swing && odd p.left) false) (size b) p.right → AtEnd false (size a) p.left → ⊥
         past p end last =
             let back = swing && odd p.left in
             let ends = join_ends false (size a) (size b) p.left (mirrored back (size b) p.right) p.left_below (omega arith) last (right_ends false back (size b) p.right p.right_below end) in
             omega (arith, join_of_size, p.is)
 
-        across : (p : Pair swing (size a) (size b) label) → AtEnd (way (swing && odd p.left) false) (size b) p.right → Near (join_of swing a b) label
+        across : (p : Pair swing (size a) (size b) label) → AtEnd (right_way (swing && odd p.left) false) (size b) p.right → Near (join_of swing a b) label
         across p end = ⊎_elim (turn p end) (λ last. absurd (past p end last)) (step_cases false (size a) p.left p.left_below)
 
     -- where the place is a label, a join of two walks that fit is a walk

@@ -1,14 +1,13 @@
 -- One step up or down, in a walk and in the labels of a join. Assumes nothing.
 use Rattle.std.specs.Prelude.{◌≡◌, ℕ, suc, ◌+◌, ◌-◌, ◌*◌, ◌<◌, ◌≤◌, Bool, true, false, cond, not, ◌⊎◌, is_ok, Ok, Err, refl}
 use Rattle.std.proofs.Common.{sym, ap, ◌∙◌, inl, inr, ⊎_elim, arith, add-one}
-use Rattle.std.specs.Bool.{beq}
 use native.Mathlib.Nat.{suc-mul}
 use Rattle.std.proofs.lemmas.Bool.{cases_lt, both_ways}
 use Rattle.walk.specs.Rows.{odd}
 use Rattle.walk.specs.Meaning.{Meaning, Lawful, size, standing}
 use Rattle.walk.specs.declared.answers.Refusal.TheVariants.{NoSuchLabel}
 use Rattle.walk.proofs.Parity.{odd_suc}
-use Rattle.joins.specs.Steps.{steps, after_step}
+use Rattle.joins.specs.Steps.{right_way, steps, after_step}
 use Rattle.joins.specs.Join.{mirrored}
 use Rattle.walk.proofs.Cases.{seek_in, seek_out, back_in, back_out}
 
@@ -21,10 +20,6 @@ StepsTo false p q = q ≡ p + 1
 abbrev pub AtEnd : Bool → ℕ → ℕ → Type 0
 AtEnd true n p = p ≡ 0
 AtEnd false n p = n ≤ p + 1
-
--- the way that the right walk goes: the other one under a left row at which its rows come backward
-abbrev pub way : Bool → Bool → Bool
-way back down = not (beq back down)
 
 -- from every label a step leads to the next label, or there is none
 pub step_cases : (down : Bool) (n p : ℕ) → p < n → ((q : ℕ) × (q < n) × StepsTo down p q) ⊎ AtEnd down n p
@@ -78,21 +73,21 @@ mirrored_twice true n j lt = omega arith
 mirrored_twice false n j lt = refl
 
 -- a step of the right walk is one of the join
-pub right_steps : (down back : Bool) (n from j k : ℕ) → j < n → k < n → StepsTo (way back down) j k → StepsTo down (from + mirrored back n j) (from + mirrored back n k)
+pub right_steps : (down back : Bool) (n from j k : ℕ) → j < n → k < n → StepsTo (right_way back down) j k → StepsTo down (from + mirrored back n j) (from + mirrored back n k)
 right_steps true true n from j k hj hk to = omega arith
 right_steps true false n from j k hj hk to = omega arith
 right_steps false true n from j k hj hk to = omega arith
 right_steps false false n from j k hj hk to = omega arith
 
 -- where the right walk can not step, the join stands at the first or the last row under the left row
-pub right_ends : (down back : Bool) (n j : ℕ) → j < n → AtEnd (way back down) n j → mirrored back n j ≡ cond down 0 (n - 1)
+pub right_ends : (down back : Bool) (n j : ℕ) → j < n → AtEnd (right_way back down) n j → mirrored back n j ≡ cond down 0 (n - 1)
 right_ends true true n j lt end = omega arith
 right_ends true false n j lt end = end
 right_ends false true n j lt end = omega arith
 right_ends false false n j lt end = omega arith
 
 -- the other way round: from there on a turn leads to the same right row
-pub turned_ends : (down back : Bool) (n j : ℕ) → j < n → AtEnd (way back down) n j → mirrored (not back) n j ≡ cond down (n - 1) 0
+pub turned_ends : (down back : Bool) (n j : ℕ) → j < n → AtEnd (right_way back down) n j → mirrored (not back) n j ≡ cond down (n - 1) 0
 turned_ends true true n j lt end = omega arith
 turned_ends true false n j lt end = omega arith
 turned_ends false true n j lt end = end

@@ -1,15 +1,16 @@
 // Two walks joined: each row of the left one followed by the rows of the right one.
-ghost use Rattle.std.specs.Prelude.{◌≡◌, ◌-◌, ◌<◌, true, false, ◌&&◌, is_ok, if◌then◌else◌, Ok};
-ghost use Rattle.walk.specs.Meaning.{size, standing};
+ghost use Rattle.std.specs.Prelude.{◌≡◌, ◌<◌, true, false, ◌&&◌, is_ok};
+ghost use Rattle.walk.specs.Meaning.{size};
 ghost use Rattle.walk.specs.Rows.{odd};
-ghost use Rattle.joins.specs.Steps.{steps, after_step};
+ghost use Rattle.joins.specs.Steps.{goes_down, steps, after_step};
 ghost use Rattle.joins.specs.Join.{swings, mirrored, joined_label, join_size, join_meaning, Joins};
 ghost use Rattle.joins.specs.JoinLaws.{join_lawful};
 
 use super::fault::JoinFault;
+use super::way::Way;
 use walk::Walk;
 use walk::answers::Refusal;
-use walk::making::MakingFault;
+use walk::making::{MakingFault, Refused};
 
 // The order of the right rows: always the same, or backward after a left row with an odd label.
 #[derive(Clone, Copy, PartialEq, Eq, Debug)]
@@ -26,14 +27,6 @@ pub struct Join<L, R> {
     order: Order,
 }
 
-// Why no join was made, and the walks as they were.
-#[derive(Drop)]
-pub struct JoinRefused<L, R> {
-    pub fault: JoinFault,
-    pub left: L,
-    pub right: R,
-}
-
 // The number of rows of a join, or why there can be none.
 fn join_size<L: Walk, R: Walk>(left: &L, right: &R) -> Result<u32, JoinFault>
     ensures { result ≡ join_size (L.Walk.meaning left.now) (R.Walk.meaning right.now) }
@@ -46,53 +39,34 @@ fn join_size<L: Walk, R: Walk>(left: &L, right: &R) -> Result<u32, JoinFault>
         .ok_or(JoinFault::Making(MakingFault::TooManyRows))
 }
 
-// The label counted from the other end of n, or as it is.
-fn mirror(back: bool, n: u32, label: u32) -> u32
-    requires { label < n }
-    ensures { result ≡ mirrored back n label }
-{
-    if back { n - 1 - label } else { label }
-}
-
-// Goes down or up by one label.
-fn step<W: Walk>(walk: &mut W, down: bool) -> Result<(), Refusal>
-    ensures answer { result ≡ steps down (W.Walk.meaning walk.old) }
-    ensures after { W.Walk.meaning walk.new ≡ after_step down (W.Walk.meaning walk.old) }
-{
-    if down { walk.back() } else { walk.advance() }
-}
-
-// Goes to the last row, or to the first one.
-fn rewind<W: Walk>(walk: &mut W, last: bool) -> Result<(), Refusal>
-    requires { 0 < size (W.Walk.meaning walk.old) }
-    ensures answer { result ≡ Ok tt }
-    ensures after { W.Walk.meaning walk.new ≡ standing (W.Walk.meaning walk.old) (if last then size (W.Walk.meaning walk.old) - 1 else 0) }
-{
-    let label = if last { walk.size() - 1 } else { 0 };
-    walk.seek(label)
-}
-
 impl<L: Walk, R: Walk> Join<L, R> {
     // For each left row, in order, every right row in order.
-    pub fn odometer(left: L, right: R) -> Result<Join<L, R>, JoinRefused<L, R>>
+    pub fn odometer(left: L, right: R) -> Result<Join<L, R>, Refused<JoinFault, (L, R)>>
         ensures { Joins L.Walk.meaning R.Walk.meaning false left right result }
     {
         Join::new(Order::Odometer, left, right)
     }
 
     // The same, with the right rows backward after a left row with an odd label.
-    pub fn swing(left: L, right: R) -> Result<Join<L, R>, JoinRefused<L, R>>
+    pub fn swing(left: L, right: R) -> Result<Join<L, R>, Refused<JoinFault, (L, R)>>
         ensures { Joins L.Walk.meaning R.Walk.meaning true left right result }
     {
         Join::new(Order::Swing, left, right)
     }
 
-    // The join in that order, standing at 0.
-    pub fn new(order: Order, mut left: L, mut right: R) -> Result<Join<L, R>, JoinRefused<L, R>>
+    // The join in that order, standing at 0. A refusal gives the walks back as they were.
+    pub fn new(
+        order: Order,
+        mut left: L,
+        mut right: R,
+    ) -> Result<Join<L, R>, Refused<JoinFault, (L, R)>>
         ensures { Joins L.Walk.meaning R.Walk.meaning (swings order) left right result }
     {
         if let Err(fault) = join_size(&left, &right) {
-            return Err(JoinRefused { fault, left, right });
+            return Err(Refused {
+                fault,
+                kept: (left, right),
+            });
         }
         let _ = left.seek(0);
         let _ = right.seek(0);
@@ -113,6 +87,18 @@ impl<L: Walk, R: Walk> Join<L, R> {
         self.order == Order::Swing && i % 2 == 1
     }
 
+    // The right label j, counted from the other end where the right rows come backward under the left row i.
+    fn under(&self, i: u32, j: u32) -> u32
+        requires { j < size (R.Walk.meaning self.now.right) }
+        ensures { result ≡ mirrored (swings self.now.order && odd i) (size (R.Walk.meaning self.now.right)) j }
+    {
+        if self.backward(i) {
+            self.right.size() - 1 - j
+        } else {
+            j
+        }
+    }
+
     // The label of the left row i followed by the right row j.
     fn label(&self, i: u32, j: u32) -> u32
         requires fits { is_ok (join_size (L.Walk.meaning self.now.left) (R.Walk.meaning self.now.right)) ≡ true }
@@ -120,25 +106,24 @@ impl<L: Walk, R: Walk> Join<L, R> {
         requires right { j < size (R.Walk.meaning self.now.right) }
         ensures { result ≡ joined_label (swings self.now.order) (size (R.Walk.meaning self.now.right)) i j }
     {
-        let n = self.right.size();
-        i * n + mirror(self.backward(i), n, j)
+        i * self.right.size() + self.under(i, j)
     }
 
-    // Goes down or up by one label: the right walk steps if it can, and else the left one.
-    fn step(&mut self, down: bool) -> Result<(), Refusal>
-        ensures answer { result ≡ steps down (join_meaning L.Walk.meaning R.Walk.meaning self.old) }
-        ensures after { join_meaning L.Walk.meaning R.Walk.meaning self.new ≡ after_step down (join_meaning L.Walk.meaning R.Walk.meaning self.old) }
+    // Goes one label that way: the right walk steps if it can, and else the left one.
+    fn step(&mut self, way: Way) -> Result<(), Refusal>
+        ensures answer { result ≡ steps (goes_down way) (join_meaning L.Walk.meaning R.Walk.meaning self.old) }
+        ensures after { join_meaning L.Walk.meaning R.Walk.meaning self.new ≡ after_step (goes_down way) (join_meaning L.Walk.meaning R.Walk.meaning self.old) }
     {
         if self.rows() == 0 {
             return Err(Refusal::NoSuchLabel);
         }
         let back = self.backward(self.left.place());
-        if step(&mut self.right, back != down).is_ok() {
+        if way.turned(back).step(&mut self.right).is_ok() {
             return Ok(());
         }
-        step(&mut self.left, down)?;
+        way.step(&mut self.left)?;
         match self.order {
-            Order::Odometer => rewind(&mut self.right, down),
+            Order::Odometer => way.begin(&mut self.right),
             Order::Swing => Ok(()),
         }
     }
@@ -154,9 +139,10 @@ impl<L: Walk, R: Walk> Walk for Join<L, R> {
     }
 
     fn width(&self) -> usize {
-        match join_size(&self.left, &self.right) {
-            Ok(_) => self.left.width() + self.right.width(),
-            Err(_) => 0,
+        if join_size(&self.left, &self.right).is_ok() {
+            self.left.width() + self.right.width()
+        } else {
+            0
         }
     }
 
@@ -180,7 +166,7 @@ impl<L: Walk, R: Walk> Walk for Join<L, R> {
         }
         let n = self.right.size();
         let i = label / n;
-        let j = mirror(self.backward(i), n, label % n);
+        let j = self.under(i, label % n);
         self.left.seek(i)?;
         self.right.seek(j)
     }
@@ -208,10 +194,10 @@ impl<L: Walk, R: Walk> Walk for Join<L, R> {
     }
 
     fn advance(&mut self) -> Result<(), Refusal> {
-        self.step(false)
+        self.step(Way::Up)
     }
 
     fn back(&mut self) -> Result<(), Refusal> {
-        self.step(true)
+        self.step(Way::Down)
     }
 }

@@ -3,8 +3,8 @@ use Rattle.std.specs.Prelude.{◌≡◌, ℕ, ◌+◌, ◌-◌, min, cond, ◌&&
 use Rattle.walk.specs.Meaning.{Meaning, size}
 use Rattle.walk.specs.declared.making.MakingFault.{MakingFault}
 use Rattle.walk.specs.declared.making.MakingFault.TheVariants.{OutOfRange}
+use Rattle.walk.specs.declared.making.Refused.{Refused}
 use Rattle.layers.specs.declared.part.Part.{Part}
-use Rattle.layers.specs.declared.part.PartRefused.{PartRefused}
 
 -- n rows of a walk from the label `from` on, standing at the label p of these
 abbrev pub piece : ℕ → ℕ → ℕ → Meaning → Meaning
@@ -35,6 +35,6 @@ abbrev pub part_made : ℕ → ℕ → Meaning → Result Meaning MakingFault
 part_made from to m = cond (nat_le from to && nat_le to (size m)) (Ok (piece from (to - from) 0 m)) (Err OutOfRange)
 
 -- The maker answers the walk that making gives, or the fault, and with it the walk below as it was.
-abbrev pub Cuts : {W : Type 0} → (W → Meaning) → W → ℕ → ℕ → Result (Part W) (PartRefused W) → Type 0
+abbrev pub Cuts : {W : Type 0} → (W → Meaning) → W → ℕ → ℕ → Result (Part W) (Refused MakingFault W) → Type 0
 Cuts meaning below from to (Ok p) = part_made from to (meaning below) ≡ Ok (cut p.behind p.ahead (meaning p.below))
-Cuts meaning below from to (Err e) = (part_made from to (meaning below) ≡ Err e.fault) × (e.below ≡ below)
+Cuts meaning below from to (Err e) = (part_made from to (meaning below) ≡ Err e.fault) × (e.kept ≡ below)

@@ -5,7 +5,7 @@ ghost use Rattle.layers.specs.Pieces.{part_lawful};
 
 use walk::Walk;
 use walk::answers::Refusal;
-use walk::making::MakingFault;
+use walk::making::{MakingFault, Refused};
 
 // The walk below stands inside the part, with some rows of the part behind that place, and some from it on.
 #[derive(Drop)]
@@ -15,22 +15,15 @@ pub struct Part<W> {
     ahead: u32,
 }
 
-// Why no part was made, and the walk as it was.
-#[derive(Drop)]
-pub struct PartRefused<W> {
-    pub fault: MakingFault,
-    pub below: W,
-}
-
 impl<W: Walk> Part<W> {
-    // The rows from the label `from` up to, not including, `to`, standing at the first.
-    pub fn new(mut below: W, from: u32, to: u32) -> Result<Part<W>, PartRefused<W>>
+    // The rows from the label `from` up to, not including, `to`, standing at the first. A refusal gives the walk back as it was.
+    pub fn new(mut below: W, from: u32, to: u32) -> Result<Part<W>, Refused<MakingFault, W>>
         ensures { Cuts W.Walk.meaning below from to result }
     {
         if from > to || to > below.size() {
-            return Err(PartRefused {
+            return Err(Refused {
                 fault: MakingFault::OutOfRange,
-                below,
+                kept: below,
             });
         }
         let _ = below.seek(from);

@@ -1,6 +1,7 @@
-use Rattle.std.proofs.Common.{◌/◌, ◌%◌, ap, ◌∙◌, ap₂, arith}
+use Rattle.std.proofs.Common.{◌/◌, ◌%◌, ◌&&◌, sym, ap, ◌∙◌, ap₂, arith}
 use Rattle.std.proofs.lemmas.Nat.{mod_below}
 use Rattle.walk.specs.Meaning.{size}
+use Rattle.walk.specs.Rows.{odd}
 use Rattle.joins.specs.Join.{swings, joined, mirrored}
 use Rattle.walk.proofs.Cases.{not_both, seek_in}
 use Rattle.joins.specs.Joined.{pair_divided}
@@ -23,13 +24,13 @@ nonzero_rem-label g c =
     let b = g.R.Walk.meaning self.right in
     omega (arith, (some_rows swing a b (omega arith)).some_right)
 
-pub mirror-j-requires : goal.mirror-j-requires
-mirror-j-requires g c =
+pub under-j-requires : goal.under-j-requires
+under-j-requires g c =
     let self = c.args.self.now in
     let swing = swings self.order in
     let a = g.L.Walk.meaning self.left in
     let b = g.R.Walk.meaning self.right in
-    mod_below c.args.label c.size-n.result (omega (arith, (some_rows swing a b (omega arith)).some_right))
+    omega (arith, mod_below c.args.label c.size-n.result (omega (arith, (some_rows swing a b (omega arith)).some_right)))
 
 -- the left walk goes to every label that it has
 pub returns-in_err-seek : goal.returns-in_err-seek
@@ -41,7 +42,7 @@ returns-in_err-seek g c =
     let rows = some_rows swing a b (omega arith) in
     let n = c.size-n.result in
     let label = c.args.label in
-    let pair = pair_divided swing (size a) (size b) n label c.mirror-j.result c.size-n.ensures (omega (arith, rows.all)) (c.mirror-j.ensures ∙ ap (λ t. mirrored t n (label % n)) c.backward.ensures) in
+    let pair = pair_divided swing (size a) (size b) n label c.under-j.result c.size-n.ensures (omega (arith, rows.all)) (c.under-j.ensures ∙ ap (λ m. mirrored (swing && odd (label / n)) m (label % n)) (sym c.size-n.ensures)) in
     absurd (not_both _ _ c.in_err-seek.ensures.answer (seek_in a (label / n) pair.0).0)
 
 pub returns : goal.returns
@@ -55,6 +56,6 @@ returns g c =
     let rows = some_rows swing a b (omega arith) in
     let n = c.size-n.result in
     let label = c.args.label in
-    let pair = pair_divided swing (size a) (size b) n label c.mirror-j.result c.size-n.ensures (omega (arith, rows.all)) (c.mirror-j.ensures ∙ ap (λ t. mirrored t n (label % n)) c.backward.ensures) in
-    let goes = join_seek swing a b lawful_a lawful_b rows (label / n) c.mirror-j.result label pair.0 pair.1 pair.2 in
+    let pair = pair_divided swing (size a) (size b) n label c.under-j.result c.size-n.ensures (omega (arith, rows.all)) (c.under-j.ensures ∙ ap (λ m. mirrored (swing && odd (label / n)) m (label % n)) (sym c.size-n.ensures)) in
+    let goes = join_seek swing a b lawful_a lawful_b rows (label / n) c.under-j.result label pair.0 pair.1 pair.2 in
     record { answer = c.seek-2.ensures.answer ∙ goes.0; after = ap₂ (joined swing) c.seek.ensures.after c.seek-2.ensures.after ∙ goes.1 }
