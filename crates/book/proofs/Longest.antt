@@ -1,9 +1,10 @@
 -- The longest lane.
-use Rattle.std.proofs.Common.{◌≡◌, ℕ, zero, suc, ◌<◌, ◌≤◌, max, leb, List, [], ◌∷◌, map, length, get_or, refl, ⊎_elim, arith}
-use Rattle.std.specs.List.{IsFirstMaxByKey}
+use Rattle.std.proofs.Common.{◌≡◌, ℕ, zero, suc, ◌+◌, ◌<◌, ◌≤◌, max, cond, not, eqb, leb, ltb, List, [], ◌∷◌, map, length, get_or, Some, None, sym, refl, ap, ◌∙◌, arith}
+use Rattle.std.specs.List.{fold, reduce, position, position_or_len}
 use Rattle.std.proofs.lemmas.List.{length-map}
-use Rattle.std.proofs.lemmas.Bool.{leb-true, leb-false, cond_both, cases_order}
-use Rattle.book.specs.Lanes.{lane_at, no_lane, left, greatest, first_greatest, longest}
+use Rattle.std.proofs.lemmas.Bool.{leb-true, leb-false, lt-ltb, eq-eqb, ne_eqb, cond-true, cond-false, cond_both}
+use Rattle.book.specs.Calls.{last_of_longest}
+use Rattle.book.specs.Lanes.{lane_at, left, greatest, first_greatest, longest, longest_of}
 use Rattle.book.specs.declared.lane.Lane.{Lane}
 
 -- none is greater than the greatest
@@ -55,20 +56,42 @@ longest_within lanes h = omega (arith, first_greatest_within (map left lanes) (o
 pub left_le_longest : (lanes : List Lane) (i : ℕ) → left (lane_at lanes i) ≤ left (lane_at lanes (longest lanes))
 left_le_longest lanes i = omega (arith, left_at lanes i, left_at lanes (longest lanes), get_or_le_greatest (map left lanes) i, get_or_first_greatest (map left lanes))
 
--- the best place of all is the longest lane
-pub longest_from_best : (lanes : List Lane) (b : ℕ) → 0 < length lanes → IsFirstMaxByKey left lanes (length lanes) b → b ≡ longest lanes
-longest_from_best lanes b some best = ⊎_elim (λ e. e) (⊎_elim (λ h. absurd (below h)) (λ h. absurd (above h))) (cases_order b (longest lanes))
-  where
-    below : b < longest lanes → ⊥
-    below h =
-        omega (
-          arith,
-          get_or_before_greatest (map left lanes) b h,
-          get_or_first_greatest (map left lanes),
-          left_at lanes b,
-          left_at lanes (longest lanes),
-          best.1 (longest lanes) no_lane (longest_within lanes some),
-        )
+-- the greatest of some numbers, one after the other
+fold_greatest : (x : ℕ) (xs : List ℕ) → fold max x xs ≡ max x (greatest xs)
+fold_greatest x [] = omega arith
+fold_greatest x (y ∷ ys) = fold_greatest (max x y) ys ∙ omega arith
 
-    above : longest lanes < b → ⊥
-    above h = omega (arith, left_le_longest lanes b, best.2 (longest lanes) no_lane h)
+-- it stands at its place first
+greatest_place : (lanes : List Lane) (most : ℕ) → most ≡ greatest (map left lanes) → position_or_len (λ lane. eqb (left lane) most) lanes ≡ longest lanes
+greatest_place [] most is = refl
+greatest_place (x ∷ xs) most is =
+    cond_both (leb (greatest (map left xs)) (left x)) 0 (suc (longest xs)) (λ b. position_or_len (λ lane. eqb (left lane) most) (x ∷ xs) ≡ b)
+    (λ e. cond-false (not (eqb (left x) most)) _ _ (ap not (eq-eqb (left x) most (omega (arith, leb-true (greatest (map left xs)) (left x) e)))))
+    (λ e. cond-true (not (eqb (left x) most)) (1 + position_or_len (λ lane. eqb (left lane) most) xs) 0 (ap not (ne_eqb (left x) most (λ same. omega (arith, leb-false (greatest (map left xs)) (left x) e))))
+    ∙ ap (λ n. 1 + n) (greatest_place xs most (omega (arith, leb-false (greatest (map left xs)) (left x) e))) ∙ omega arith)
+
+-- the first lane with the most labels left is the longest lane
+pub longest_found : (lanes : List Lane) (most : ℕ) → reduce max (map left lanes) ≡ Some most → position (λ lane. eqb (left lane) most) lanes ≡ longest_of lanes
+longest_found [] most is = refl
+longest_found (x ∷ xs) most is =
+    let all : most ≡ greatest (map left (x ∷ xs)) = sym (cc (is)) ∙ fold_greatest (left x) (map left xs) in
+    let place = greatest_place (x ∷ xs) most all in
+    ap (λ n. cond (ltb n (length (x ∷ xs))) (Some n) None) place
+    ∙ cond-true (ltb (longest (x ∷ xs)) (length (x ∷ xs))) _ _ (lt-ltb (longest (x ∷ xs)) (length (x ∷ xs)) (longest_within (x ∷ xs) (omega arith)))
+
+-- there is none where there are no lanes
+pub longest_missing : (lanes : List Lane) → reduce max (map left lanes) ≡ None → longest_of lanes ≡ None
+longest_missing [] is = refl
+longest_missing (x ∷ xs) is = absurd (let z : ◌≡◌ {A = ℕ} 0 1 = cc in omega arith)
+
+-- it is one of the lanes
+pub longest_is : (lanes : List Lane) (n : ℕ) → longest_of lanes ≡ Some n → (n ≡ longest lanes) × (n < length lanes)
+longest_is [] n is = absurd (let z : ◌≡◌ {A = ℕ} 0 1 = cc in omega arith)
+longest_is (x ∷ xs) n is =
+    let same : n ≡ longest (x ∷ xs) = cc is in
+    (same, omega (arith, longest_within (x ∷ xs) (omega arith)))
+
+-- without lanes there is no last label
+pub last_of_none : (lanes : List Lane) → longest_of lanes ≡ None → last_of_longest lanes ≡ None
+last_of_none [] is = refl
+last_of_none (x ∷ xs) is = absurd (let z : ◌≡◌ {A = ℕ} 0 1 = cc in omega arith)

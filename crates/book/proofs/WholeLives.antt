@@ -1,18 +1,18 @@
 -- The theorem on a book's whole life.
-use Rattle.std.proofs.Common.{◌≡◌, ℕ, ◌+◌, ◌<◌, ◌≤◌, true, cond, ◌&&◌, eqb, ltb, leb, List, [], ◌∷◌, length, is_some, Some, None, Ok, Err, count_by, Option, sym, refl, ap, ◌∙◌, subst, ⊎_elim, arith}
+use Rattle.std.proofs.Common.{◌≡◌, ℕ, ◌+◌, ◌<◌, ◌≤◌, true, cond, eqb, ltb, List, [], ◌∷◌, length, is_some, is_ok, Some, None, Ok, Err, count_by, Option, sym, refl, ap, ◌∙◌, subst, ⊎_elim, arith}
 use Rattle.std.specs.List.{range_with_len, AllByRecursion}
 use Rattle.std.specs.Option.{option_map}
 use Rattle.std.proofs.lemmas.List.FromFn.{length-range_with_len, length-map-range_with_len}
 use Rattle.std.proofs.lemmas.List.{nil_from_length}
 use Rattle.std.proofs.lemmas.List.Sums.{sum_by-cons, get_or-le-sum_by}
-use Rattle.std.proofs.lemmas.Bool.{eqb-true, eq-eqb, ne_eqb, ltb-true, ltb-false, lt-ltb, le-ltb, cases_lt, cases_eq, and_parts, and_from, le-leb, cond-true, cond-false, cond_both}
+use Rattle.std.proofs.lemmas.Bool.{eqb-true, eq-eqb, ne_eqb, ltb-true, ltb-false, lt-ltb, le-ltb, cases_lt, cases_eq, and_parts, cond-true, cond-false, cond_both}
 use Rattle.walk.specs.Meaning.{Meaning, Lawful, size, standing}
 use Rattle.walk.specs.Meaning as meaning
 use Rattle.walk.specs.Rows.{Row, Apart, differences}
 use Rattle.book.specs.Calls.{next_draw, last_of_longest}
 use Rattle.book.specs.Histories.{Take, AskCounts, Close, Answer, number, shown, refusal, answer, state_after, history}
-use Rattle.book.specs.Lanes.{no_lane, lane_at, left, longest, opened_lane, opened_lanes}
-use Rattle.book.specs.Opening.{opened, opens}
+use Rattle.book.specs.Lanes.{no_lane, lane_at, left, longest, may_print, opened_lane, opened_lanes}
+use Rattle.book.specs.Opening.{opened, opens, Refuses, NoLedger}
 use Rattle.book.specs.Places.{Move, moves, hand, waits, undrawn, bench, queue, lane_left, waiting_count, undrawn_count, at_front, last_front}
 use Rattle.book.specs.Rules.{next_label, giving, rule}
 use Rattle.book.specs.State.{State}
@@ -23,8 +23,10 @@ use Rattle.book.specs.declared.lane.Lane.{Lane}
 use Rattle.book.specs.declared.refusal.BookRefusal.{BookRefusal}
 use Rattle.book.specs.declared.refusal.BookRefusal.TheVariants.{UnknownPrinter, HandFull, NothingLeft, NotAllPrinted}
 use Rattle.book.specs.declared.refusal.BookRefusal.TheVariants as refused
-use Rattle.book.specs.declared.refusal.OpeningFault.TheVariants.{NumberOfPrinters}
+use Rattle.book.specs.declared.refusal.OpeningFault.{OpeningFault}
+use Rattle.book.specs.declared.refusal.OpeningFault.TheVariants.{NumberOfPrinters, NoMemory}
 use Rattle.walk.specs.declared.answers.Refusal.TheVariants.{ShortTray}
+use Rattle.book.proofs.Starts.{may_print_some}
 use Rattle.book.proofs.Kept.{Kept}
 use Rattle.book.proofs.Lives.{kept_always}
 use Rattle.book.proofs.Draws.{drew}
@@ -201,12 +203,12 @@ whole_life m k lawful some calls =
     (life (kept_always m k lawful.apart calls) lawful.apart some lawful)
 
 -- A book that begins as opening says is opened, and lives so.
-pub opened_life : (m : Meaning) (k n : ℕ) (s : State) → Lawful m → 1 ≤ k → k ≤ 16 → n ≡ size m → s.walk ≡ m → s.lanes ≡ opened_lanes n k → s.waiting ≡ [] → s.bench ≡ 0 →
+pub opened_life : (m : Meaning) (k n : ℕ) (s : State) → Lawful m → may_print k ≡ true → n ≡ size m → s.walk ≡ m → s.lanes ≡ opened_lanes n k → s.waiting ≡ [] → s.bench ≡ 0 →
     (opens m k ≡ Ok s) × WholeLife s
-opened_life m k n s lawful some few rows walk lanes waiting bench =
+opened_life m k n s lawful may rows walk lanes waiting bench =
     let begins : s ≡ opened m k = begin in (
-      cond-true (leb 1 k && leb k 16) (Ok (opened m k)) (Err NumberOfPrinters) (and_from (leb 1 k) (leb k 16) (le-leb 1 k some) (le-leb k 16 few)) ∙ ap Ok (sym begins),
-      subst WholeLife (sym begins) (whole_life m k lawful some),
+      cond-true (may_print k) (Ok (opened m k)) (Err NumberOfPrinters) may ∙ ap Ok (sym begins),
+      subst WholeLife (sym begins) (whole_life m k lawful (may_print_some k may).0),
     )
   where
     begin : s ≡ opened m k
@@ -215,3 +217,8 @@ opened_life m k n s lawful some few rows walk lanes waiting bench =
         ∙ ap (λ (ls : List Lane). record { walk = m; lanes = ls; waiting = s.waiting; bench = s.bench }) (lanes ∙ ap (λ x. opened_lanes x k) rows)
         ∙ ap (λ (w : List ℕ). record { walk = m; lanes = opened_lanes (size m) k; waiting = w; bench = s.bench }) waiting
         ∙ ap (λ b. record { walk = m; lanes = opened_lanes (size m) k; waiting = []; bench = b }) bench
+
+-- Why there is no ledger is why no book is opened.
+pub not_opened : (m : Meaning) (k : ℕ) (e : OpeningFault) → NoLedger k e → Refuses (opens m k) e
+not_opened m k NumberOfPrinters not_allowed = cond-false (may_print k) (Ok (opened m k)) (Err NumberOfPrinters) not_allowed
+not_opened m k NoMemory may = ap is_ok (cond-true (may_print k) (Ok (opened m k)) (Err NumberOfPrinters) may)

@@ -85,6 +85,10 @@ written m width (Err refusal) tray = tray
 abbrev pub tray_after_take : State → ℕ → List ℕ → List ℕ
 tray_after_take s i tray = written s.walk s.walk.width (takes s i tray) tray
 
+-- a printer's lane and hand
+abbrev pub lane_of : List Lane → ℕ → Result Lane BookRefusal
+lane_of lanes i = cond (nat_lt i (length lanes)) (Ok (lane_at lanes i)) (Err UnknownPrinter)
+
 -- the label in a printer's hand
 abbrev pub held : List Lane → ℕ → Result ℕ BookRefusal
 held lanes i = cond (nat_lt i (length lanes)) (ok_or (lane_at lanes i).hand HandEmpty) (Err UnknownPrinter)

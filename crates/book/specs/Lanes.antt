@@ -1,5 +1,5 @@
 -- Lanes and hands, as lists. Assumes nothing.
-use Rattle.std.specs.Prelude.{ℕ, suc, ◌+◌, ◌-◌, ◌*◌, ◌/◌, max, cond, List, [], ◌∷◌, map, is_some, None, sum_by, count_by, Option, nat_le, slice_index_or, slice_set}
+use Rattle.std.specs.Prelude.{ℕ, suc, ◌+◌, ◌-◌, ◌*◌, ◌/◌, max, Bool, cond, ◌&&◌, List, [], ◌∷◌, map, is_some, Some, None, sum_by, count_by, Option, nat_le, slice_index_or, slice_set}
 use Rattle.std.specs.List.{range_with_len}
 use Rattle.book.specs.declared.lane.Lane.{Lane}
 
@@ -36,6 +36,11 @@ first_greatest (x ∷ xs) = cond (nat_le (greatest xs) x) 0 (suc (first_greatest
 abbrev pub longest : List Lane → ℕ
 longest lanes = first_greatest (map left lanes)
 
+-- the number of the longest lane, if there are lanes
+abbrev pub longest_of : List Lane → Option ℕ
+longest_of [] = None
+longest_of (lane ∷ lanes) = Some (longest (lane ∷ lanes))
+
 -- the lane of printer i without its first label
 abbrev pub without_first : ℕ → List Lane → List Lane
 without_first i lanes = slice_set lanes i (record { next = (lane_at lanes i).next + 1; end = (lane_at lanes i).end; hand = (lane_at lanes i).hand })
@@ -47,6 +52,10 @@ without_last i lanes = slice_set lanes i (record { next = (lane_at lanes i).next
 -- what the hand of printer i holds now
 abbrev pub with_hand : ℕ → Option ℕ → List Lane → List Lane
 with_hand i hand lanes = slice_set lanes i (record { next = (lane_at lanes i).next; end = (lane_at lanes i).end; hand = hand })
+
+-- a book has 1 to 16 printers
+abbrev pub may_print : ℕ → Bool
+may_print k = nat_le 1 k && nat_le k 16
 
 -- where the lane of printer i begins on opening, with n rows and k printers
 abbrev pub lane_start : ℕ → ℕ → ℕ → ℕ

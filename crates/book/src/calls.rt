@@ -6,7 +6,6 @@ ghost use Rattle.book.specs.State.{state};
 
 use super::book::Book;
 use super::counts::Counts;
-use super::drawing::tally;
 use super::refusal::BookRefusal;
 use walk::Walk;
 use walk::answers::Refusal;
@@ -40,12 +39,11 @@ impl<W: Walk> Book<W> {
     pub fn counts(&self) -> Counts
         ensures { result ≡ counted (state W.Walk.meaning self.now) }
     {
-        let (hands, undrawn) = tally(&self.ledger.lanes);
         Counts {
             bench: self.ledger.bench,
-            hands,
+            hands: self.ledger.hands(),
             waiting: self.ledger.waiting.len() as u32,
-            undrawn,
+            undrawn: self.ledger.undrawn(),
         }
     }
 
@@ -80,10 +78,7 @@ impl<W: Walk> Book<W> {
         ensures after { state W.Walk.meaning self.new ≡ after_take (state W.Walk.meaning self.old) printer tray.old }
         ensures bytes { tray.new ≡ tray_after_take (state W.Walk.meaning self.old) printer tray.old }
     {
-        let Some(lane) = self.ledger.lanes.get(printer) else {
-            return Err(BookRefusal::UnknownPrinter);
-        };
-        if lane.hand.is_some() {
+        if self.ledger.lane(printer)?.hand.is_some() {
             return Err(BookRefusal::HandFull);
         }
         if tray.len() < self.walk.width() {

@@ -1,7 +1,8 @@
 // What the ledger says of printers and their next labels.
-ghost use Rattle.std.specs.Prelude.{◌≡◌, ◌+◌, ◌<◌, ◌≤◌, length, vec_len, nat_lt};
-ghost use Rattle.book.specs.Lanes.{left, longest, hands, undrawn};
-ghost use Rattle.book.specs.Calls.{held, next_draw, last_of_longest, lanes_after, waiting_after, Drawable};
+ghost use Rattle.std.specs.Prelude.{◌≡◌, ◌<◌, ◌==◌, max, map, position, vec_len};
+ghost use Rattle.std.specs.List.{reduce};
+ghost use Rattle.book.specs.Lanes.{left, longest_of, hands, undrawn};
+ghost use Rattle.book.specs.Calls.{lane_of, held, next_draw, last_of_longest, lanes_after, waiting_after, Drawable};
 
 use super::draw::{Draw, Source};
 use super::lane::Lane;
@@ -17,49 +18,34 @@ impl Lane {
     }
 }
 
-// How many hands hold a label, and how many labels the lanes have left.
-pub(crate) fn tally(lanes: &[Lane]) -> (u32, u32)
-    requires { hands lanes.now + undrawn lanes.now ≤ 4294967295 }
-    ensures { (result.0 ≡ hands lanes.now) × (result.1 ≡ undrawn lanes.now) }
+// How many labels the longest lane has left; none where there are no lanes.
+fn most_left(lanes: &[Lane]) -> Option<u32>
+    ensures { result ≡ reduce max (map left lanes.now) }
 {
-    let mut hands = 0;
-    let mut undrawn = 0;
-    for lane in lanes {
-        if lane.hand.is_some() {
-            hands += 1;
-        }
-        undrawn += lane.left();
-    }
-    (hands, undrawn)
+    lanes.iter().map(|lane| lane.left()).max()
 }
 
-// Whether a lane has more labels left than another.
-fn longer(lane: Lane, other: Lane) -> bool
-    ensures { result ≡ nat_lt (left other) (left lane) }
+// The lowest number of a lane that has so many labels left.
+fn first_with(lanes: &[Lane], labels: u32) -> Option<usize>
+    ensures { result ≡ position (λ lane. left lane == labels) lanes.now }
 {
-    lane.left() > other.left()
+    lanes.iter().position(|lane| lane.left() == labels)
 }
 
-// The number of the longest lane, the lowest where several are equally long.
-fn longest(lanes: &[Lane]) -> usize
-    requires { 0 < length lanes.now }
-    ensures { result ≡ longest lanes.now }
+// The number of the longest lane, the lowest where several are equally long; none where there are no lanes.
+#[tactic(auto, using(crate::proofs::Longest::longest_missing))]
+fn longest(lanes: &[Lane]) -> Option<usize>
+    ensures { result ≡ longest_of lanes.now }
 {
-    let mut best = 0;
-    for i in 1..lanes.len() {
-        if longer(lanes[i], lanes[best]) {
-            best = i;
-        }
-    }
-    best
+    first_with(lanes, most_left(lanes)?)
 }
 
 // The last label of the longest lane, if any lane has labels left.
+#[tactic(auto, using(crate::proofs::Longest::longest_is, crate::proofs::Longest::last_of_none))]
 fn last_of_longest(lanes: &[Lane]) -> Option<Draw>
-    requires { 0 < length lanes.now }
     ensures { result ≡ last_of_longest lanes.now }
 {
-    let number = longest(lanes);
+    let number = longest(lanes)?;
     let lane = lanes[number];
     if lane.left() == 0 {
         return None;
@@ -71,6 +57,20 @@ fn last_of_longest(lanes: &[Lane]) -> Option<Draw>
 }
 
 impl Ledger {
+    // How many hands hold a label.
+    pub(crate) fn hands(&self) -> u32
+        ensures { result ≡ hands self.now.lanes.items }
+    {
+        self.lanes.iter().filter(|lane| lane.hand.is_some()).count() as u32
+    }
+
+    // How many labels the lanes have left.
+    pub(crate) fn undrawn(&self) -> u32
+        ensures { result ≡ undrawn self.now.lanes.items }
+    {
+        self.lanes.iter().map(|lane| lane.left()).sum()
+    }
+
     // The printer's next label, and where it comes from.
     pub(crate) fn next_draw(&self, printer: usize) -> Option<Draw>
         requires { printer < vec_len self.now.lanes }
@@ -92,17 +92,25 @@ impl Ledger {
         })
     }
 
+    // The printer's lane and hand.
+    pub(crate) fn lane(&self, printer: usize) -> Result<Lane, BookRefusal>
+        ensures { result ≡ lane_of self.now.lanes.items printer }
+    {
+        self.lanes
+            .get(printer)
+            .copied()
+            .ok_or(BookRefusal::UnknownPrinter)
+    }
+
     // The label in the printer's hand.
     pub(crate) fn held(&self, printer: usize) -> Result<u32, BookRefusal>
         ensures { result ≡ held self.now.lanes.items printer }
     {
-        let Some(lane) = self.lanes.get(printer) else {
-            return Err(BookRefusal::UnknownPrinter);
-        };
-        lane.hand.ok_or(BookRefusal::HandEmpty)
+        self.lane(printer)?.hand.ok_or(BookRefusal::HandEmpty)
     }
 
-    // Takes a label away where it comes from. `remove` keeps the room that the waiting labels have, as `pop_front` does not say.
+    // Takes a label away where it comes from.
+    #[tactic(auto, using(crate::proofs::Accounts::lane_open, crate::proofs::Accounts::first_drawn, crate::proofs::Accounts::last_drawn))]
     pub(crate) fn remove(&mut self, from: Source)
         requires { Drawable from self.old.lanes.items }
         ensures lanes { self.new.lanes.items ≡ lanes_after from self.old.lanes.items }
@@ -111,22 +119,14 @@ impl Ledger {
     {
         match from {
             Source::Waiting => {
-                let _ = self.waiting.remove(0);
+                let _ = self.waiting.pop_front();
             }
             Source::Front(lane) => {
-                let own = self.lanes[lane];
-                self.lanes[lane] = Lane {
-                    next: own.next + 1,
-                    ..own
-                };
+                let own = &mut self.lanes[lane];
+                prove!(own.next < own.end);
+                own.next += 1;
             }
-            Source::Back(lane) => {
-                let own = self.lanes[lane];
-                self.lanes[lane] = Lane {
-                    end: own.end - 1,
-                    ..own
-                };
-            }
+            Source::Back(lane) => self.lanes[lane].end -= 1,
         }
     }
 }

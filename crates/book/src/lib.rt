@@ -10,4 +10,5 @@ pub mod lane;
 pub mod laws;
 pub mod ledger;
 pub mod opening;
+mod printers;
 pub mod refusal;

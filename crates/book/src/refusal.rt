@@ -2,7 +2,9 @@
 ghost use Rattle.std.specs.Prelude.{◌≡◌};
 ghost use Rattle.book.specs.Refusals.{refusal_number, opening_number};
 ghost use Rattle.book.specs.declared.refusal.BookRefusal.TheVariants.{Row};
+ghost use Rattle.book.specs.declared.refusal.OpeningFault.TheVariants.{NoMemory};
 
+use std::alloc::AllocError;
 use walk::answers::Refusal;
 
 #[derive(Clone, Copy, PartialEq, Eq, Debug)]
@@ -65,5 +67,13 @@ impl OpeningFault {
             OpeningFault::NumberOfPrinters => Some(7),
             OpeningFault::NoMemory => None,
         }
+    }
+}
+
+impl From<AllocError> for OpeningFault {
+    ghost from_gives = { λ _ r. r ≡ NoMemory };
+
+    fn from(_e: AllocError) -> OpeningFault {
+        Self::NoMemory
     }
 }

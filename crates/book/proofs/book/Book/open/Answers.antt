@@ -1,4 +1,4 @@
-use Rattle.std.proofs.Common.{refl, arith}
+use Rattle.std.proofs.Common.{refl}
 use Rattle.book.specs.State.{state}
 use Rattle.book.proofs.WholeLives.{opened_life}
 use Rattle.book.proofs.book.Book.open.Goals as goal
@@ -8,5 +8,5 @@ returns-in-Ok g c =
     let facts = c.in-Ok.ensures in
     let life = opened_life (g.W.Walk.meaning c.args.walk) c.args.printers c.size.result
     (state g.W.Walk.meaning (record { walk = c.args.walk; ledger = c.in-Ok.ledger }))
-    (g.met.W.Walk.lawful c.args.walk) (omega arith) (omega arith) c.size.ensures refl facts.0 facts.1 facts.2 in
+    (g.met.W.Walk.lawful c.args.walk) facts.0 c.size.ensures refl facts.1 facts.2 facts.3 in
     record { answer = life.0; life = life.1 }
