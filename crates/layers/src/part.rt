@@ -98,6 +98,7 @@ impl<W: Walk> Walk for Part<W> {
         self.below.read(tray)
     }
 
+    #[tactic(auto, using(crate::specs::Pieces::part_size, crate::specs::Pieces::part_lost, crate::specs::Pieces::part_found))]
     fn find(&self, row: &[u8]) -> Result<u32, Refusal> {
         let label = self.below.find(row)?;
         let start = self.start();

@@ -62,6 +62,7 @@ impl<W: Walk> Walk for Reverse<W> {
         self.below.read(tray)
     }
 
+    #[tactic(auto, using(crate::specs::Reversed::reverse_found, crate::specs::Reversed::reverse_lost, walk::proofs::Cases::found_below))]
     fn find(&self, row: &[u8]) -> Result<u32, Refusal> {
         let label = self.below.find(row)?;
         Ok(self.below.size() - 1 - label)

@@ -5,11 +5,9 @@ ghost use Rattle.joins.specs.declared.fault.JoinFault.TheVariants.{Making};
 ghost use Rattle.piles.specs.declared.trouble.Trouble.TheVariants.{Pile, Output};
 
 use joins::fault::JoinFault;
-use joins::join::JoinRefused;
-use layers::part::PartRefused;
 use std::alloc::AllocError;
 use std::io;
-use walk::making::MakingFault;
+use walk::making::{MakingFault, Refused};
 
 #[derive(Debug, Drop)]
 pub enum Trouble {
@@ -35,19 +33,20 @@ impl From<AllocError> for Trouble {
     }
 }
 
-impl<W: Drop> From<PartRefused<W>> for Trouble {
-    ghost from_gives = { λ e r. r ≡ Pile (Making e.fault) };
+impl From<JoinFault> for Trouble {
+    ghost from_gives = { λ e r. r ≡ Pile e };
 
-    fn from(refused: PartRefused<W>) -> Trouble {
-        Trouble::Pile(JoinFault::Making(refused.fault))
+    fn from(fault: JoinFault) -> Trouble {
+        Trouble::Pile(fault)
     }
 }
 
-impl<L: Drop, R: Drop> From<JoinRefused<L, R>> for Trouble {
-    ghost from_gives = { λ e r. r ≡ Pile e.fault };
+// The walks that come back are let go.
+impl<F: Into<Trouble>, W: Drop> From<Refused<F, W>> for Trouble {
+    ghost from_gives = { λ e r. F.converts e.fault r };
 
-    fn from(refused: JoinRefused<L, R>) -> Trouble {
-        Trouble::Pile(refused.fault)
+    fn from(refused: Refused<F, W>) -> Trouble {
+        refused.fault.into()
     }
 }
 

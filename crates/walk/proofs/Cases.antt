@@ -92,6 +92,10 @@ module _ (m : Meaning) (r : Row) where
       none : Unlisted m.rows r → ⊥
       none u = let z : ◌≡◌ {A = ℕ} 0 1 = cc (e, ap (λ o. ok_or o NoSuchRow) u.told) in omega arith
 
+  -- and one of the walk
+  pub found_below : (label : ℕ) → Ok label ≡ finds m r → label < size m
+  found_below label e = (found label e).0
+
   -- a row that `find` refuses is not in the walk
   pub lost : (why : Refusal) → Err why ≡ finds m r → (why ≡ NoSuchRow) × ((i : ℕ) → i < size m → row m i ≡ r → ⊥)
   lost why e = ⊎_elim (λ l. absurd (at l)) none (label_cases m.rows r)
