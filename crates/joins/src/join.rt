@@ -74,6 +74,7 @@ impl<L: Walk, R: Walk> Join<L, R> {
     }
 
     // The number of rows.
+    #[tactic(auto, using(crate::proofs::JoinCalls::join_rows))]
     fn rows(&self) -> u32
         ensures { result ≡ size (join_meaning L.Walk.meaning R.Walk.meaning self.now) }
     {
@@ -160,6 +161,7 @@ impl<L: Walk, R: Walk> Walk for Join<L, R> {
             && self.right.steady()
     }
 
+    #[tactic(auto, using(crate::proofs::JoinCalls::some_rows))]
     fn seek(&mut self, label: u32) -> Result<(), Refusal> {
         if label >= self.rows() {
             return Err(Refusal::NoSuchLabel);
@@ -183,6 +185,7 @@ impl<L: Walk, R: Walk> Walk for Join<L, R> {
         self.right.read(&mut tray[width..])
     }
 
+    #[tactic(auto, using(crate::proofs::JoinCalls::some_rows, crate::proofs::JoinCalls::join_lost_left, walk::proofs::Cases::found_below))]
     fn find(&self, row: &[u8]) -> Result<u32, Refusal> {
         let width = self.left.width();
         if self.rows() == 0 || row.len() != width + self.right.width() {

@@ -1,9 +1,9 @@
-use Rattle.std.proofs.Common.{◌≡◌, ◌-◌, ◌++◌, length, take, drop, is_ok, Ok, Err, sym, ap, ◌∙◌, ap₂, arith}
+use Rattle.std.proofs.Common.{◌≡◌, ◌-◌, ◌++◌, length, take, drop, Ok, Err, sym, ap, ◌∙◌, ap₂, arith}
 use Rattle.std.proofs.lemmas.List.{take_rest, take-append-drop}
 use Rattle.std.proofs.lemmas.Result.{err_from_is_err_and}
 use Rattle.joins.specs.Join.{swings, joined}
-use Rattle.walk.proofs.Cases.{found, finds_none}
-use Rattle.joins.proofs.JoinCalls.{some_rows, join_lost_width, join_lost_left, join_lost_right, join_found}
+use Rattle.walk.proofs.Cases.{finds_none}
+use Rattle.joins.proofs.JoinCalls.{some_rows, join_lost_width, join_lost_right, join_found}
 use Rattle.joins.proofs.join.JoinWalk.find.Goals.{then-rows-eq0-via-then-rows-eq0, then-rows-eq0-via-else-rows-eq0+then-row-width}
 use Rattle.joins.proofs.join.JoinWalk.find.Goals as goal
 
@@ -22,18 +22,6 @@ returns-then-rows-eq0 g c =
           sym (join_lost_width swing a b lawful_a lawful_b (some_rows swing a b (omega (arith, w.if-rows-eq0.false))) r (λ e. w.if-row-width.true (omega (arith, w.width.ensures))))
     ]
 
-pub returns-in_err-i : goal.returns-in_err-i
-returns-in_err-i g c =
-    let self = c.args.self.now in
-    let swing = swings self.order in
-    let a = g.L.Walk.meaning self.left in
-    let b = g.R.Walk.meaning self.right in
-    let lawful_a = g.met.L.Walk.lawful self.left in
-    let lawful_b = g.met.R.Walk.lawful self.right in
-    let rows = some_rows swing a b (omega arith) in
-    let why = err_from_is_err_and c.from_residual.result c.from_residual.ensures.1 in
-    why.1 ∙ ap Err why.2 ∙ sym (join_lost_left swing a b lawful_a lawful_b rows c.args.row.now _ _ (ap (λ n. take n c.args.row.now) (omega arith)) c.in_err-i.ensures)
-
 pub returns-in_err-j : goal.returns-in_err-j
 returns-in_err-j g c =
     let self = c.args.self.now in
@@ -45,15 +33,6 @@ returns-in_err-j g c =
     let rows = some_rows swing a b (omega arith) in
     let why = err_from_is_err_and c.from_residual-in_err-j.result c.from_residual-in_err-j.ensures.1 in
     why.1 ∙ ap Err why.2 ∙ sym (join_lost_right swing a b lawful_a lawful_b rows c.args.row.now _ _ (take_rest c.args.row.now c.width-width.result ∙ ap (λ n. drop n c.args.row.now) c.width-width.ensures) c.in_err-j.ensures)
-
-pub label-requires : goal.label-requires
-label-requires g c =
-    let self = c.args.self.now in
-    let swing = swings self.order in
-    let a = g.L.Walk.meaning self.left in
-    let b = g.R.Walk.meaning self.right in
-    let rows = some_rows swing a b (omega arith) in
-    record { fits = ap is_ok rows.fits.told; left = (found a _ c.in_ok-i.i c.in_ok-i.ensures).0; right = (found b _ c.in_ok-j.j c.in_ok-j.ensures).0 }
 
 pub returns : goal.returns
 returns g c =

@@ -1,19 +1,8 @@
 use Rattle.std.proofs.Common.{◌-◌, length, take, drop, ◌∙◌, arith}
 use Rattle.std.proofs.lemmas.List.{take_rest}
 use Rattle.joins.specs.Join.{swings}
-use Rattle.walk.proofs.Cases.{not_both, read_row}
 use Rattle.joins.proofs.JoinCalls.{some_rows, join_reads}
 use Rattle.joins.proofs.join.JoinWalk.read.Goals as goal
-
--- there are left rows, and the tray is long enough for one
-pub returns-in_err-read : goal.returns-in_err-read
-returns-in_err-read g c =
-    let self = c.args.self.now in
-    let swing = swings self.order in
-    let a = g.L.Walk.meaning self.left in
-    let b = g.R.Walk.meaning self.right in
-    let rows = some_rows swing a b (omega arith) in
-    absurd (not_both _ _ c.in_err-read.ensures.answer (read_row a c.args.tray.now rows.some_left (omega arith)).0)
 
 pub returns : goal.returns
 returns g c =

@@ -1,5 +1,4 @@
 use Rattle.std.proofs.Common.{◌/◌, ◌%◌, ◌&&◌, sym, ap, ◌∙◌, ap₂, arith}
-use Rattle.std.proofs.lemmas.Nat.{mod_below}
 use Rattle.walk.specs.Meaning.{size}
 use Rattle.walk.specs.Rows.{odd}
 use Rattle.joins.specs.Join.{swings, joined, mirrored}
@@ -7,30 +6,6 @@ use Rattle.walk.proofs.Cases.{not_both, seek_in}
 use Rattle.joins.specs.Joined.{pair_divided}
 use Rattle.joins.proofs.JoinCalls.{some_rows, join_seek}
 use Rattle.joins.proofs.join.JoinWalk.seek.Goals as goal
-
-pub nonzero_div-i : goal.nonzero_div-i
-nonzero_div-i g c =
-    let self = c.args.self.now in
-    let swing = swings self.order in
-    let a = g.L.Walk.meaning self.left in
-    let b = g.R.Walk.meaning self.right in
-    omega (arith, (some_rows swing a b (omega arith)).some_right)
-
-pub nonzero_rem-label : goal.nonzero_rem-label
-nonzero_rem-label g c =
-    let self = c.args.self.now in
-    let swing = swings self.order in
-    let a = g.L.Walk.meaning self.left in
-    let b = g.R.Walk.meaning self.right in
-    omega (arith, (some_rows swing a b (omega arith)).some_right)
-
-pub under-j-requires : goal.under-j-requires
-under-j-requires g c =
-    let self = c.args.self.now in
-    let swing = swings self.order in
-    let a = g.L.Walk.meaning self.left in
-    let b = g.R.Walk.meaning self.right in
-    omega (arith, mod_below c.args.label c.size-n.result (omega (arith, (some_rows swing a b (omega arith)).some_right)))
 
 -- the left walk goes to every label that it has
 pub returns-in_err-seek : goal.returns-in_err-seek
