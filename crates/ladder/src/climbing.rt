@@ -22,6 +22,7 @@ impl Walk for Ladder {
 
     ghost lawful = { ladder_lawful };
 
+    #[tactic(auto, using(crate::specs::Rungs::ladder_length))]
     fn size(&self) -> u32 {
         u32::from(self.rungs)
     }
@@ -38,6 +39,7 @@ impl Walk for Ladder {
         true
     }
 
+    #[tactic(auto, using(crate::specs::Rungs::ladder_length))]
     fn seek(&mut self, label: u32) -> Result<(), Refusal> {
         if label >= u32::from(self.rungs) {
             return Err(Refusal::NoSuchLabel);
@@ -46,6 +48,7 @@ impl Walk for Ladder {
         Ok(())
     }
 
+    #[tactic(auto, using(crate::specs::Rungs::ladder_short, crate::specs::Rungs::ladder_read))]
     fn read(&self, tray: &mut [u8]) -> Result<(), Refusal> {
         if self.rungs == 0 {
             return Err(Refusal::NoSuchLabel);
@@ -57,10 +60,11 @@ impl Walk for Ladder {
         Ok(())
     }
 
+    #[tactic(auto, using(crate::specs::Rungs::ladder_lost, crate::specs::Rungs::ladder_found))]
     fn find(&self, row: &[u8]) -> Result<u32, Refusal> {
-        if row.len() != 1 || row[0] >= self.rungs {
-            return Err(Refusal::NoSuchRow);
+        match row {
+            [rung] if *rung < self.rungs => Ok(u32::from(*rung)),
+            _ => Err(Refusal::NoSuchRow),
         }
-        Ok(u32::from(row[0]))
     }
 }
