@@ -48,6 +48,7 @@ impl<W: Walk> Book<W> {
     }
 
     // The row was printed and is the one in the printer's hand: it goes on the bench.
+    #[tactic(auto, using(crate::proofs::Accounts::emptied))]
     pub fn printed(&mut self, printer: usize, row: &[u8]) -> Result<u32, BookRefusal>
         ensures answer { result ≡ prints (state W.Walk.meaning self.old) printer row.now }
         ensures after { state W.Walk.meaning self.new ≡ after_printed (state W.Walk.meaning self.old) printer row.now }
@@ -62,6 +63,7 @@ impl<W: Walk> Book<W> {
     }
 
     // The print is spoiled: the label in the printer's hand waits for the next free printer.
+    #[tactic(auto, using(crate::proofs::Accounts::emptied))]
     pub fn spoiled(&mut self, printer: usize) -> Result<u32, BookRefusal>
         ensures answer { result ≡ spoils (state W.Walk.meaning self.old) printer }
         ensures after { state W.Walk.meaning self.new ≡ after_spoiled (state W.Walk.meaning self.old) printer }
@@ -73,6 +75,7 @@ impl<W: Walk> Book<W> {
     }
 
     // Gives the printer its next label, and writes the label's row into the tray.
+    #[tactic(auto, using(crate::proofs::Draws::drew, crate::proofs::Draws::drew_drawable))]
     pub fn take(&mut self, printer: usize, tray: &mut [u8]) -> Result<u32, BookRefusal>
         ensures answer { result ≡ takes (state W.Walk.meaning self.old) printer tray.old }
         ensures after { state W.Walk.meaning self.new ≡ after_take (state W.Walk.meaning self.old) printer tray.old }

@@ -123,6 +123,7 @@ impl Ledger {
             }
             Source::Front(lane) => {
                 let own = &mut self.lanes[lane];
+                // A lane that is drawn from has a label left, so the sum fits.
                 prove!(own.next < own.end);
                 own.next += 1;
             }

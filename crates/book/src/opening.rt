@@ -15,6 +15,7 @@ use walk::making::Refused;
 
 impl Ledger {
     // The ledger of a freshly opened book.
+    #[tactic(auto, using(crate::proofs::Starts::hands_opened, crate::proofs::Starts::undrawn_opened))]
     fn open(rows: u32, printers: usize, heap: Global) -> Result<Ledger, OpeningFault>
         ensures { MatchResult result (OpensLedger rows printers) (NoLedger printers) }
     {
@@ -30,6 +31,7 @@ impl Ledger {
 
 impl<W: Walk> Book<W> {
     // A book on the walk, with so many printers. A refusal opens no book and gives the walk back as it was.
+    #[tactic(auto, using(crate::proofs::WholeLives::opened_life, crate::proofs::WholeLives::not_opened))]
     pub fn open(walk: W, printers: usize, heap: Global) -> Result<Book<W>, Refused<OpeningFault, W>>
         ensures answer { Opens W.Walk.meaning walk printers result }
         ensures life { IfOk result (λ b. WholeLife (state W.Walk.meaning b)) }

@@ -2,15 +2,8 @@ use Rattle.std.proofs.Common.{◌≡◌, ◌<◌, false, length, is_some, Some, 
 use Rattle.std.proofs.lemmas.List.{length-set}
 use Rattle.book.specs.Lanes.{lane_at}
 use Rattle.book.proofs.Accounts.{rehanded}
-use Rattle.book.proofs.Draws.{drew, drew_drawable, given_at, still_kept}
+use Rattle.book.proofs.Draws.{given_at, still_kept}
 use Rattle.book.proofs.book.Book.take.Goals as goal
-
-pub remove-requires : goal.remove-requires
-remove-requires g c =
-    let known : c.args.printer < length c.args.self.now.ledger.lanes.items = search rules in
-    drew_drawable c.args.self.now.ledger.waiting.items c.args.self.now.ledger.lanes.items c.args.printer c.in_ok-draw.draw known
-    (drew c.args.self.now.ledger.waiting.items c.args.self.now.ledger.lanes.items c.args.printer c.in_ok-draw.draw
-    (sym c.next_draw.ensures ∙ c.in_ok-draw.ensures.ok_part))
 
 pub invariant_of-self : goal.invariant_of-self
 invariant_of-self g c =
