@@ -1,6 +1,7 @@
 -- What the tests on rows tell, and where a row stands in a list. Assumes nothing.
 use Rattle.std.proofs.Common.{◌≡◌, ℕ, zero, suc, ◌+◌, ◌<◌, true, false, eqb, List, [], ◌∷◌, length, get_or, Some, None, Option, sym, refl, ap, ◌∙◌, subst, ap₂, ⊎_elim, zero-add, arith}
 use Rattle.std.specs.Option.{option_map}
+use Rattle.std.proofs.lemmas.List.{ext_get_or}
 use Rattle.std.proofs.lemmas.Bool.{eqb-true, eqb-false, eq-eqb, ne_eqb, and_parts, and_from, cases_Bool, cond-true, cond-false}
 use Rattle.std.proofs.lemmas.Bool.Decides.{nat_tests}
 use Rattle.walk.specs.Rows.{Row, row_at, Apart, same_row, label_of, differences, lowest, highest}
@@ -55,16 +56,12 @@ lowest_none (x ∷ xs) (y ∷ ys) long all =
     cond-true (eqb x y) (suc (lowest xs ys)) 0 (eq-eqb x y (all 0 (omega arith)))
     ∙ ap suc (lowest_none xs ys (omega arith) (λ k lt. all (suc k) (omega arith)))
 
--- rows of one length with equal values are equal
-pub equal_by_values : (a b : Row) → length a ≡ length b → ((k : ℕ) → k < length a → get_or a k 0 ≡ get_or b k 0) → a ≡ b
-equal_by_values a b = Rattle.std.proofs.lemmas.List.ext_get_or 0 a b
-
 -- the highest difference is the place behind which all values are equal
 pub highest_is : (a b : Row) (i : ℕ) → length a ≡ length b → i < length a → ((k : ℕ) → i < k → k < length a → get_or a k 0 ≡ get_or b k 0) → (get_or a i 0 ≡ get_or b i 0 → ⊥) → highest a b ≡ i
 highest_is [] b i long h above here = absurd (omega arith)
 highest_is (x ∷ xs) [] i long h above here = absurd (omega arith)
 highest_is (x ∷ xs) (y ∷ ys) zero long h above here =
-    let rest = equal_by_values xs ys (omega arith) (λ k lt. above (suc k) (omega arith) (omega arith)) in
+    let rest = ext_get_or 0 xs ys (omega arith) (λ k lt. above (suc k) (omega arith) (omega arith)) in
     cond-true (same_row xs ys) 0 (suc (highest xs ys)) (subst (λ r. same_row xs r ≡ true) rest (same_itself xs))
 highest_is (x ∷ xs) (y ∷ ys) (suc i) long h above here =
     cond-false (same_row xs ys) 0 (suc (highest xs ys)) (differ_from_unequal xs ys (λ e. here (ap (λ r. get_or r i 0) e)))
@@ -75,7 +72,7 @@ pub highest_none : (a b : Row) → length a ≡ length b → ((k : ℕ) → k < 
 highest_none [] b long all = refl
 highest_none (x ∷ xs) [] long all = refl
 highest_none (x ∷ xs) (y ∷ ys) long all =
-    let rest = equal_by_values xs ys (omega arith) (λ k lt. all (suc k) (omega arith)) in
+    let rest = ext_get_or 0 xs ys (omega arith) (λ k lt. all (suc k) (omega arith)) in
     cond-true (same_row xs ys) 0 (suc (highest xs ys)) (subst (λ r. same_row xs r ≡ true) rest (same_itself xs))
 
 -- two rows with one first value differ in as many places as without it
