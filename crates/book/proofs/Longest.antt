@@ -1,10 +1,11 @@
 -- The longest lane.
-use Rattle.std.proofs.Common.{◌≡◌, ℕ, zero, suc, ◌+◌, ◌<◌, ◌≤◌, max, cond, not, eqb, leb, ltb, List, [], ◌∷◌, map, length, get_or, Some, None, sym, refl, ap, ◌∙◌, arith}
+use Rattle.std.proofs.Common.{◌≡◌, ℕ, zero, suc, ◌<◌, ◌≤◌, max, cond, eqb, leb, ltb, List, [], ◌∷◌, map, length, get_or, Some, None, sym, refl, ap, ◌∙◌, arith}
 use Rattle.std.specs.List.{fold, reduce, position, position_or_len}
 use Rattle.std.proofs.lemmas.List.{length-map}
-use Rattle.std.proofs.lemmas.Bool.{leb-true, leb-false, lt-ltb, eq-eqb, ne_eqb, cond-true, cond-false, cond_both}
+use Rattle.std.proofs.lemmas.List.Sums.{position_or_len_is}
+use Rattle.std.proofs.lemmas.Bool.{leb-true, leb-false, lt-ltb, eq-eqb, ne_eqb, cond-true, cond_both}
 use Rattle.book.specs.Calls.{last_of_longest}
-use Rattle.book.specs.Lanes.{lane_at, left, greatest, first_greatest, longest, longest_of}
+use Rattle.book.specs.Lanes.{no_lane, lane_at, left, greatest, first_greatest, longest, longest_of}
 use Rattle.book.specs.declared.lane.Lane.{Lane}
 
 -- none is greater than the greatest
@@ -61,21 +62,19 @@ fold_greatest : (x : ℕ) (xs : List ℕ) → fold max x xs ≡ max x (greatest 
 fold_greatest x [] = omega arith
 fold_greatest x (y ∷ ys) = fold_greatest (max x y) ys ∙ omega arith
 
--- it stands at its place first
-greatest_place : (lanes : List Lane) (most : ℕ) → most ≡ greatest (map left lanes) → position_or_len (λ lane. eqb (left lane) most) lanes ≡ longest lanes
-greatest_place [] most is = refl
-greatest_place (x ∷ xs) most is =
-    cond_both (leb (greatest (map left xs)) (left x)) 0 (suc (longest xs)) (λ b. position_or_len (λ lane. eqb (left lane) most) (x ∷ xs) ≡ b)
-    (λ e. cond-false (not (eqb (left x) most)) _ _ (ap not (eq-eqb (left x) most (omega (arith, leb-true (greatest (map left xs)) (left x) e)))))
-    (λ e. cond-true (not (eqb (left x) most)) (1 + position_or_len (λ lane. eqb (left lane) most) xs) 0 (ap not (ne_eqb (left x) most (λ same. omega (arith, leb-false (greatest (map left xs)) (left x) e))))
-    ∙ ap (λ n. 1 + n) (greatest_place xs most (omega (arith, leb-false (greatest (map left xs)) (left x) e))) ∙ omega arith)
+-- it stands first at its place
+greatest_place : (lanes : List Lane) (most : ℕ) → 0 < length lanes → most ≡ greatest (map left lanes) → position_or_len (λ lane. eqb (left lane) most) lanes ≡ longest lanes
+greatest_place lanes most some is =
+    position_or_len_is (λ lane. eqb (left lane) most) lanes (longest lanes) no_lane (omega (arith, longest_within lanes some))
+    (λ k lt. ne_eqb (left (lane_at lanes k)) most (λ same. omega (arith, left_at lanes k, get_or_before_greatest (map left lanes) k lt)))
+    (λ lt. eq-eqb (left (lane_at lanes (longest lanes))) most (omega (arith, left_at lanes (longest lanes), get_or_first_greatest (map left lanes))))
 
 -- the first lane with the most labels left is the longest lane
 pub longest_found : (lanes : List Lane) (most : ℕ) → reduce max (map left lanes) ≡ Some most → position (λ lane. eqb (left lane) most) lanes ≡ longest_of lanes
 longest_found [] most is = refl
 longest_found (x ∷ xs) most is =
     let all : most ≡ greatest (map left (x ∷ xs)) = sym (cc (is)) ∙ fold_greatest (left x) (map left xs) in
-    let place = greatest_place (x ∷ xs) most all in
+    let place = greatest_place (x ∷ xs) most (omega arith) all in
     ap (λ n. cond (ltb n (length (x ∷ xs))) (Some n) None) place
     ∙ cond-true (ltb (longest (x ∷ xs)) (length (x ∷ xs))) _ _ (lt-ltb (longest (x ∷ xs)) (length (x ∷ xs)) (longest_within (x ∷ xs) (omega arith)))
 

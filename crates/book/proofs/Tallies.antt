@@ -1,5 +1,5 @@
 -- Counting over lists and ranges.
-use Rattle.std.proofs.Common.{◌≡◌, ℕ, zero, suc, ◌+◌, ◌<◌, ◌≤◌, Bool, true, false, eqb, List, [], ◌∷◌, ◌++◌, length, sum_by, count_by, sym, refl, ap, ◌∙◌, subst, ⊎_elim, add-zero, suc-add, zero-add, arith}
+use Rattle.std.proofs.Common.{◌≡◌, ℕ, zero, suc, ◌+◌, ◌<◌, ◌≤◌, Bool, false, eqb, List, [], ◌∷◌, ◌++◌, length, sum_by, count_by, sym, refl, ap, ◌∙◌, subst, ⊎_elim, add-zero, suc-add, zero-add, arith}
 use Rattle.std.specs.List.{range_with_len, AllByRecursion}
 use Rattle.std.proofs.lemmas.List.FromFn.{length-range_with_len, get_or-range_with_len}
 use Rattle.std.proofs.lemmas.List.Sums.{sum_by-cons, get_or-le-sum_by}
@@ -67,15 +67,6 @@ pub count_itself : (x a n : ℕ) → a ≤ x → x < a + n → count_by (λ l. e
 count_itself x a n low high =
     let changed = count_changed (λ _. false) (λ l. eqb x l) x a n (λ j other. sym (ne_eqb x j (λ e. other (sym e)))) low high in
     omega (arith, changed, ap one_if (eq-eqb x x refl), sum_by_zeros (range_with_len a n))
-
--- a test that counts at most as much as nothing fails
-pub false_from_none : (b : Bool) → one_if b ≤ 0 → b ≡ false
-false_from_none true h = absurd (omega arith)
-false_from_none false h = refl
-
-pub true_from_one : (b : Bool) → 1 ≤ one_if b → b ≡ true
-true_from_one true h = refl
-true_from_one false h = absurd (omega arith)
 
 -- what one number of a range gives is at most the whole sum
 pub at_le_sum : (f : ℕ → ℕ) (n l : ℕ) → l < n → f l ≤ sum_by f (range_with_len 0 n)

@@ -27,11 +27,6 @@ pub record SomeRows (swing : Bool) (a b : Meaning) : Type 0 where
   pub all : size (joined swing a b) ≡ size a * size b
   pub is : joined swing a b ≡ standing (join_of swing a b) (joined_label swing (size b) a.place b.place)
 
--- both give the same
-cond_same : (t : Bool) (x y : ℕ) → y ≡ x → cond t x y ≡ x
-cond_same true x y e = refl
-cond_same false x y e = e
-
 -- the row at which the right walk starts again
 start_below : (down : Bool) (n : ℕ) → 0 < n → cond down (n - 1) 0 < n
 start_below true n some = omega arith
