@@ -5,7 +5,7 @@ use Rattle.std.specs.List.{range_with_len}
 use Rattle.std.proofs.lemmas.Nat.{le-div}
 use Rattle.std.proofs.lemmas.List.FromFn.{sum_by-map-range_with_len_more}
 use Rattle.std.proofs.lemmas.Bool.{and_parts, leb-true}
-use Rattle.book.specs.Lanes.{left, undrawn, hands, may_print, lane_start, opened_lane, opened_lanes}
+use Rattle.book.specs.Lanes.{left, undrawn, hands, printers_allowed, lane_start, opened_lane, opened_lanes}
 use Rattle.book.proofs.Accounts.{holding}
 
 -- a lane begins where the one before ends, or later
@@ -45,7 +45,7 @@ pub hands_opened : (n k : ℕ) → hands (opened_lanes n k) ≡ 0
 hands_opened n k = hands_below n k k
 
 -- a number of printers that a book may have
-pub may_print_some : (k : ℕ) → may_print k ≡ true → (1 ≤ k) × (k ≤ 16)
-may_print_some k may =
+pub allowed_some : (k : ℕ) → printers_allowed k ≡ true → (1 ≤ k) × (k ≤ 16)
+allowed_some k may =
     let both = and_parts (leb 1 k) (leb k 16) may in
     (leb-true 1 k both.0, leb-true k 16 both.1)

@@ -11,7 +11,7 @@ use Rattle.walk.specs.Meaning as meaning
 use Rattle.walk.specs.Rows.{Row, Apart, differences}
 use Rattle.book.specs.Calls.{next_draw, last_of_longest}
 use Rattle.book.specs.Histories.{Take, AskCounts, Close, Answer, number, shown, refusal, answer, state_after, history}
-use Rattle.book.specs.Lanes.{no_lane, lane_at, left, longest, may_print, opened_lane, opened_lanes}
+use Rattle.book.specs.Lanes.{no_lane, lane_at, left, longest, printers_allowed, opened_lane, opened_lanes}
 use Rattle.book.specs.Opening.{opened, opens, Refuses, NoLedger}
 use Rattle.book.specs.Places.{Move, moves, hand, waits, undrawn, bench, queue, lane_left, waiting_count, undrawn_count, at_front, last_front}
 use Rattle.book.specs.Rules.{next_label, giving, rule}
@@ -26,7 +26,7 @@ use Rattle.book.specs.declared.refusal.BookRefusal.TheVariants as refused
 use Rattle.book.specs.declared.refusal.OpeningFault.{OpeningFault}
 use Rattle.book.specs.declared.refusal.OpeningFault.TheVariants.{NumberOfPrinters, NoMemory}
 use Rattle.walk.specs.declared.answers.Refusal.TheVariants.{ShortTray}
-use Rattle.book.proofs.Starts.{may_print_some}
+use Rattle.book.proofs.Starts.{allowed_some}
 use Rattle.book.proofs.Kept.{Kept}
 use Rattle.book.proofs.Lives.{kept_always}
 use Rattle.book.proofs.Draws.{drew}
@@ -203,12 +203,12 @@ whole_life m k lawful some calls =
     (life (kept_always m k lawful.apart calls) lawful.apart some lawful)
 
 -- A book that begins as opening says is opened, and lives so.
-pub opened_life : (m : Meaning) (k n : ℕ) (s : State) → Lawful m → may_print k ≡ true → n ≡ size m → s.walk ≡ m → s.lanes ≡ opened_lanes n k → s.waiting ≡ [] → s.bench ≡ 0 →
+pub opened_life : (m : Meaning) (k n : ℕ) (s : State) → Lawful m → printers_allowed k ≡ true → n ≡ size m → s.walk ≡ m → s.lanes ≡ opened_lanes n k → s.waiting ≡ [] → s.bench ≡ 0 →
     (opens m k ≡ Ok s) × WholeLife s
 opened_life m k n s lawful may rows walk lanes waiting bench =
     let begins : s ≡ opened m k = begin in (
-      cond-true (may_print k) (Ok (opened m k)) (Err NumberOfPrinters) may ∙ ap Ok (sym begins),
-      subst WholeLife (sym begins) (whole_life m k lawful (may_print_some k may).0),
+      cond-true (printers_allowed k) (Ok (opened m k)) (Err NumberOfPrinters) may ∙ ap Ok (sym begins),
+      subst WholeLife (sym begins) (whole_life m k lawful (allowed_some k may).0),
     )
   where
     begin : s ≡ opened m k
@@ -220,5 +220,5 @@ opened_life m k n s lawful may rows walk lanes waiting bench =
 
 -- Why there is no ledger is why no book is opened.
 pub not_opened : (m : Meaning) (k : ℕ) (e : OpeningFault) → NoLedger k e → Refuses (opens m k) e
-not_opened m k NumberOfPrinters not_allowed = cond-false (may_print k) (Ok (opened m k)) (Err NumberOfPrinters) not_allowed
-not_opened m k NoMemory may = ap is_ok (cond-true (may_print k) (Ok (opened m k)) (Err NumberOfPrinters) may)
+not_opened m k NumberOfPrinters not_allowed = cond-false (printers_allowed k) (Ok (opened m k)) (Err NumberOfPrinters) not_allowed
+not_opened m k NoMemory may = ap is_ok (cond-true (printers_allowed k) (Ok (opened m k)) (Err NumberOfPrinters) may)

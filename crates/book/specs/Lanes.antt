@@ -54,8 +54,8 @@ abbrev pub with_hand : ℕ → Option ℕ → List Lane → List Lane
 with_hand i hand lanes = slice_set lanes i (record { next = (lane_at lanes i).next; end = (lane_at lanes i).end; hand = hand })
 
 -- a book has 1 to 16 printers
-abbrev pub may_print : ℕ → Bool
-may_print k = nat_le 1 k && nat_le k 16
+abbrev pub printers_allowed : ℕ → Bool
+printers_allowed k = nat_le 1 k && nat_le k 16
 
 -- where the lane of printer i begins on opening, with n rows and k printers
 abbrev pub lane_start : ℕ → ℕ → ℕ → ℕ

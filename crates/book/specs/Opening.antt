@@ -3,7 +3,7 @@ use Rattle.std.specs.Prelude.{◌≡◌, ℕ, true, false, cond, [], is_ok, Ok, 
 use Rattle.std.specs.VecDeque.{deque_items}
 use Rattle.walk.specs.Meaning.{Meaning, size}
 use Rattle.walk.specs.declared.making.Refused.{Refused}
-use Rattle.book.specs.Lanes.{may_print, opened_lanes}
+use Rattle.book.specs.Lanes.{printers_allowed, opened_lanes}
 use Rattle.book.specs.State.{State, state}
 use Rattle.book.specs.declared.book.Book.{Book}
 use Rattle.book.specs.declared.ledger.Ledger.{Ledger}
@@ -16,7 +16,7 @@ opened m k = record { walk = m; lanes = opened_lanes (size m) k; waiting = []; b
 
 -- `open` refuses a number of printers that is not 1 to 16
 abbrev pub opens : Meaning → ℕ → Result State OpeningFault
-opens m k = cond (may_print k) (Ok (opened m k)) (Err NumberOfPrinters)
+opens m k = cond (printers_allowed k) (Ok (opened m k)) (Err NumberOfPrinters)
 
 -- it wants for memory only where a book is given
 abbrev pub Refuses : Result State OpeningFault → OpeningFault → Type 0
@@ -30,9 +30,9 @@ Opens meaning walk k (Err e) = Refuses (opens (meaning walk) k) e.fault × (e.ke
 
 -- the ledger of that book, where the walk has n rows
 abbrev pub OpensLedger : ℕ → ℕ → Ledger → Type 0
-OpensLedger n k l = (may_print k ≡ true) × (vec_items l.lanes ≡ opened_lanes n k) × (deque_items l.waiting ≡ []) × (l.bench ≡ 0)
+OpensLedger n k l = (printers_allowed k ≡ true) × (vec_items l.lanes ≡ opened_lanes n k) × (deque_items l.waiting ≡ []) × (l.bench ≡ 0)
 
 -- why there is none
 abbrev pub NoLedger : ℕ → OpeningFault → Type 0
-NoLedger k NumberOfPrinters = may_print k ≡ false
-NoLedger k NoMemory = may_print k ≡ true
+NoLedger k NumberOfPrinters = printers_allowed k ≡ false
+NoLedger k NoMemory = printers_allowed k ≡ true

@@ -1,6 +1,6 @@
 // How many printers a book has, and their lanes on opening.
 ghost use Rattle.std.specs.Prelude.{◌≡◌, ◌<◌, ◌≤◌, true, false, MatchResult, IfOk};
-ghost use Rattle.book.specs.Lanes.{may_print, lane_start, opened_lane, opened_lanes};
+ghost use Rattle.book.specs.Lanes.{printers_allowed, lane_start, opened_lane, opened_lanes};
 ghost use Rattle.book.specs.declared.refusal.OpeningFault.TheVariants.{NumberOfPrinters};
 
 use super::lane::Lane;
@@ -18,7 +18,7 @@ pub(crate) struct Printers {
 impl TryFrom<usize> for Printers {
     type Error = OpeningFault;
 
-    ghost try_from_gives = { λ k r. MatchResult r (λ p. (may_print k ≡ true) × (p.count ≡ k)) (λ e. (may_print k ≡ false) × (e ≡ NumberOfPrinters)) };
+    ghost try_from_gives = { λ k r. MatchResult r (λ p. (printers_allowed k ≡ true) × (p.count ≡ k)) (λ e. (printers_allowed k ≡ false) × (e ≡ NumberOfPrinters)) };
 
     fn try_from(count: usize) -> Result<Printers, OpeningFault> {
         if count < 1 || count > 16 {
