@@ -214,6 +214,7 @@ pub record RightStep (swing : Bool) (a b b' : Meaning) (down ok : Bool) : Type 0
   pub answer : is_ok (steps (right_way (swing && odd a.place) down) b) ≡ ok
   pub after : b' ≡ after_step (right_way (swing && odd a.place) down) b
 
+-- it is one from how the code finds its way
 pub right_step : (swing : Bool) (a b b' : Meaning) (down ok : Bool) → 0 < size (joined swing a b) → (p : ℕ) (back d : Bool) → p ≡ a.place → back ≡ (swing && odd p) → d ≡ right_way back down →
     is_ok (steps d b) ≡ ok → b' ≡ after_step d b → RightStep swing a b b' down ok
 right_step swing a b b' down ok some p back d p_is back_is d_is answer after =
@@ -228,10 +229,11 @@ module _ (swing : Bool) (a b b' : Meaning) (down : Bool) (lawful_a : Lawful a) (
       (sym goes.0, ap (joined swing a) right.after ∙ sym goes.1)
 
   module _ (right : RightStep swing a b b' down false) where
+    -- a right walk that cannot step stands at its end;
     right_end : AtEnd (right_way (swing && odd a.place) down) (size b) b.place
     right_end = step_refused (right_way (swing && odd a.place) down) b (right_inside swing a b lawful_a lawful_b (some_rows swing a b right.some)) right.answer
 
-    -- where it cannot, it stays,
+    -- it stays,
     pub right_stays : b' ≡ b
     right_stays = right.after ∙ (step_out (right_way (swing && odd a.place) down) b right_end).1
 
