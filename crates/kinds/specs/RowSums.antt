@@ -13,6 +13,7 @@ use Rattle.kinds.specs.declared.sums.StockNode.{StockNode}
 use Rattle.kinds.specs.Door.{door_length}
 use Rattle.kinds.specs.Fronts.{rest_of, rest_is}
 use Rattle.kinds.specs.Nodes.{Nowhere, Begins, ways_before, stock_enters, stock_outside, stock_picks, ways_within, door_enters, door_outside, door_picks}
+use Rattle.kinds.specs.Shapes.{reflects}
 use Rattle.kinds.specs.Stock.{stock_length}
 use Rattle.kinds.specs.WayCounts.{ways_at}
 
@@ -120,7 +121,7 @@ module _ (self : StockNode) (bin : 0 < length self.bins.now) where
   t = self.left
 
   abbrev reflected : Bool
-  reflected = self.reflected
+  reflected = reflects self.order
 
   -- the counts of the first bin, for a sum that is left
   abbrev pub count_of : ℕ → ℕ

@@ -1,9 +1,8 @@
-use Rattle.std.proofs.Common.{true, leb, Ok, sym, ap, ◌∙◌, subst, arith}
+use Rattle.std.proofs.Common.{true, leb, Ok, sym, ap, ◌∙◌, arith}
 use Rattle.std.proofs.lemmas.Bool.{le-leb}
-use Rattle.kinds.specs.Laws.{ChangesLaws}
 use Rattle.kinds.specs.Lists.{changes}
-use Rattle.kinds.specs.Changes.{changes_laws}
 use Rattle.kinds.proofs.Made.{making_ok}
+use Rattle.kinds.proofs.MadeLaws.{changes_hold}
 use Rattle.kinds.specs.Limits.{counted_some}
 use Rattle.kinds.proofs.MadeTables.{few_changes}
 use Rattle.kinds.proofs.kind.Kind.changes.Goals as goal
@@ -17,7 +16,5 @@ pub returns : goal.returns
 returns c =
     let n = c.args.n in
     let count = counted_some c.in-Some.size _ c.in-Some.ensures in
-    record {
-      made = making_ok (leb n 32) (changes n) n true (le-leb n 32 (omega arith)) count.1 ∙ ap Ok (sym c.new.ensures);
-      laws = subst (λ m. ChangesLaws n m.rows) (sym c.new.ensures) (changes_laws n);
-    }
+    let made = making_ok (leb n 32) (changes n) n true (le-leb n 32 (omega arith)) count.1 ∙ ap Ok (sym c.new.ensures) in
+    record { made = made; laws = changes_hold n (Ok c.new.result) made }

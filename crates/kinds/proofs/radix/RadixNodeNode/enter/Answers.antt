@@ -1,6 +1,5 @@
-use Rattle.std.proofs.Common.{◌*◌, ◌&&◌, [], ◌∷◌, sym, ap, subst, arith}
-use Rattle.kinds.specs.Lists.{odd}
-use Rattle.kinds.specs.Shapes.{radices, mixed}
+use Rattle.std.proofs.Common.{◌*◌, [], ◌∷◌, sym, ap, subst₂, arith}
+use Rattle.kinds.specs.Shapes.{reflects, radices, mixed}
 use Rattle.kinds.specs.Tree.{Stands}
 use Rattle.kinds.specs.Fronts.{rest_of, rest_length}
 use Rattle.kinds.specs.MixedRadix.{front, rest_holds, rest_few, before_few, levels_enter, levels_outside}
@@ -16,7 +15,7 @@ pub returns-then-value-radix : goal.returns-then-value-radix
 returns-then-value-radix c =
     let self = c.args.self.now in
     record {
-      branch = levels_outside self.reflected self.levels.now c.args.value c.requires self.hold c.if-value-radix.true;
+      branch = levels_outside (reflects self.order) self.levels.now c.args.value c.requires self.hold c.if-value-radix.true;
       down = tt;
     }
 
@@ -32,8 +31,8 @@ returns c =
     let self = c.args.self.now in
     let levels = self.levels.now in
     record {
-      branch = subst (λ v. Stands (mixed self.reflected (radices levels)) (c.args.value ∷ []) (record { from = v * (front levels).below; count = (front levels).below; backward = self.reflected && odd c.args.value }) (mixed self.reflected (radices (rest_of levels))))
-          (sym c.from.ensures)
-          (levels_enter self.reflected levels c.args.value c.requires self.hold c.if-value-radix.false);
+      branch = subst₂ (λ v back. Stands (mixed (reflects self.order) (radices levels)) (c.args.value ∷ []) (record { from = v * (front levels).below; count = (front levels).below; backward = back }) (mixed (reflects self.order) (radices (rest_of levels))))
+          (sym c.from.ensures) (sym c.turns.ensures)
+          (levels_enter (reflects self.order) levels c.args.value c.requires self.hold c.if-value-radix.false);
       down = rest_length levels c.requires;
     }

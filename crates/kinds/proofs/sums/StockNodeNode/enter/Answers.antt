@@ -1,8 +1,9 @@
-use Rattle.std.proofs.Common.{◌-◌, ◌≤◌, min, ◌&&◌, [], ◌∷◌, get_or, sym, ap, ◌∙◌, subst₂, arith}
-use Rattle.walk.specs.Rows.{odd}
+use Rattle.std.proofs.Common.{◌-◌, ◌≤◌, min, [], ◌∷◌, get_or, sym, ap, ◌∙◌, subst, subst₂, arith}
 use Rattle.kinds.specs.Bins.{mosts, filled}
+use Rattle.kinds.specs.Lists.{total}
+use Rattle.kinds.specs.Shapes.{reflects}
 use Rattle.kinds.specs.Tree.{Stands}
-use Rattle.kinds.specs.RowSums.{front, node_enters, node_outside, node_empty, counts_few, count_is, rest_few, rest_ones, first_bin}
+use Rattle.kinds.specs.RowSums.{front, count_of, node_enters, node_outside, node_empty, counts_few, count_is, rest_few, rest_ones, first_bin}
 use Rattle.kinds.specs.Fronts.{rest_of, rest_length}
 use Rattle.kinds.proofs.sums.StockNodeNode.enter.Goals as goal
 
@@ -70,8 +71,9 @@ returns c =
     let within : value ≤ min (front bins).most self.left = omega (arith, c.min.ensures, c.if-value-min.false) in
     let read = ap (λ i. get_or (front bins).ways i 0) c.from.ensures in
     record {
-      branch = subst₂ (λ from count. Stands (filled self.reflected (mosts bins) self.left) (value ∷ []) (record { from = from; count = count; backward = self.reflected && odd value }) (filled self.reflected (mosts (rest_of bins)) (self.left - value)))
+      branch = subst₂ (λ from count. Stands (filled (reflects self.order) (mosts bins) self.left) (value ∷ []) (record { from = from; count = count; backward = c.turns.result }) (filled (reflects self.order) (mosts (rest_of bins)) (self.left - value)))
           (sym c.rows_before-from.ensures) (sym read)
-          (node_enters self c.requires value within);
+          (subst (λ back. Stands (filled (reflects self.order) (mosts bins) self.left) (value ∷ []) (record { from = total value (count_of self c.requires); count = count_of self c.requires value; backward = back }) (filled (reflects self.order) (mosts (rest_of bins)) (self.left - value)))
+          (sym c.turns.ensures) (node_enters self c.requires value within));
       down = rest_length bins c.requires;
     }

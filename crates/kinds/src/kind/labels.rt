@@ -1,0 +1,52 @@
+// Label to row and row to label, shape by shape.
+ghost use Rattle.std.specs.Prelude.{◌≡◌, ◌<◌, length};
+ghost use Rattle.walk.specs.Rows.{row_at, label_of};
+ghost use Rattle.kinds.specs.Shapes.{rows_of};
+
+use super::super::multiset::WordsNode;
+use super::super::plain_changes::{find_changes, write_changes};
+use super::super::radix::RadixNode;
+use super::super::shape::Shape;
+use super::super::sums::StockNode;
+use super::super::tree::{find_row, write_row};
+use super::Kind;
+
+impl Kind {
+    // Writes the row at the place into a tray as wide as a row.
+    pub(crate) fn write_row(&self, tray: &mut [u8])
+        requires some { 0 < self.now.size }
+        requires wide { length tray.old ≡ self.now.width }
+        ensures { tray.new ≡ row_at (rows_of self.now.shape) self.now.place }
+    {
+        let label = self.place;
+        match &self.shape {
+            Shape::Radices(levels, order) => {
+                write_row(RadixNode::new(levels, *order), label, tray)
+            }
+            Shape::Sums(bins, sum, order) => {
+                write_row(StockNode::new(bins, *sum, *order), label, tray)
+            }
+            Shape::Words(counts) => write_row(WordsNode::new(counts, self.size), label, tray),
+            Shape::Changes(_) => write_changes(label, tray),
+        }
+    }
+
+    // The label of a row as wide as the kind's rows.
+    pub(crate) fn find_row(&self, row: &[u8]) -> Option<u32>
+        requires wide { length row.now ≡ self.now.width }
+        ensures { result ≡ label_of (rows_of self.now.shape) row.now }
+    {
+        let size = self.size;
+        if size == 0 {
+            return None;
+        }
+        match &self.shape {
+            Shape::Radices(levels, order) => find_row(RadixNode::new(levels, *order), size, row),
+            Shape::Sums(bins, sum, order) => {
+                find_row(StockNode::new(bins, *sum, *order), size, row)
+            }
+            Shape::Words(counts) => find_row(WordsNode::new(counts, size), size, row),
+            Shape::Changes(_) => find_changes(row),
+        }
+    }
+}
