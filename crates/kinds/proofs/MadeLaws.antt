@@ -1,13 +1,14 @@
 -- What a maker answers keeps the laws of its kind. Assumes nothing.
-use Rattle.std.proofs.Common.{ℕ, true, false, List, sum, nat_le, Result}
+use Rattle.std.proofs.Common.{◌≡◌, ℕ, Bool, true, false, List, sum, Result, sym, subst}
+use Rattle.kinds.specs.Shapes.{rows_of}
 use Rattle.std.specs.Prelude.{IfOk}
-use Rattle.walk.specs.Making.{Makes}
+use Rattle.walk.specs.Making.{Makes, new_walk}
 use Rattle.walk.specs.declared.making.MakingFault.{MakingFault}
 use Rattle.kinds.specs.Changes.{changes_laws}
 use Rattle.kinds.specs.Digits.{digits_laws}
 use Rattle.kinds.specs.Door.{door_laws}
 use Rattle.kinds.specs.Gray.{gray_laws}
-use Rattle.kinds.specs.Kinds.{kind_meaning, radices_fit, stocks_fit, choice_fits, counts_fit, digits_made, gray_made, stock_made, choose_made, door_made, words_made, changes_made}
+use Rattle.kinds.specs.Kinds.{kind_meaning, radices_fit, stocks_fit, choice_fits, counts_fit, digits_made, gray_made, stock_made, choose_made, door_made, words_made}
 use Rattle.kinds.specs.Laws.{DigitsLaws, GrayLaws, StockLaws, ChooseLaws, DoorLaws, WordsLaws, ChangesLaws}
 use Rattle.kinds.specs.Lists.{digits, gray, stock, choose, door, words, changes}
 use Rattle.kinds.specs.Stock.{stock_laws, choose_laws}
@@ -33,5 +34,5 @@ door_hold n t r made = made_holds (DoorLaws n t) (choice_fits n t) (door n t) n 
 pub words_hold : (n : ℕ) (list : List ℕ) (r : Result Kind MakingFault) → Makes kind_meaning r (words_made n list) → IfOk r (λ k. WordsLaws list (kind_meaning k).rows)
 words_hold n list r made = made_holds (WordsLaws list) (counts_fit n list) (words list) (sum list) false r made (words_laws list)
 
-pub changes_hold : (n : ℕ) (r : Result Kind MakingFault) → Makes kind_meaning r (changes_made n) → IfOk r (λ k. ChangesLaws n (kind_meaning k).rows)
-changes_hold n r made = made_holds (ChangesLaws n) (nat_le n 32) (changes n) n true r made (changes_laws n)
+pub changes_hold : (n : ℕ) (k : Kind) (width : ℕ) (steady : Bool) → kind_meaning k ≡ new_walk (changes n) width steady → ChangesLaws n (rows_of k.shape)
+changes_hold n k width steady is = subst (λ m. ChangesLaws n m.rows) (sym is) (changes_laws n)

@@ -155,5 +155,5 @@ choice_table reflected n t bins size fits told =
     }
 
 -- orders that can be counted are of at most 12 values
-pub few_changes : (n : ℕ) → length (changes n) ≤ 4294967295 → n ≤ 12
-few_changes n few = ⊎_elim (λ (lt : n < 13). omega arith) (λ over. absurd (omega (arith, factorial_rises 13 n over, changes_length n))) (cases_lt n 13)
+pub few_changes : (n : ℕ) → length (changes n) ≤ 4294967295 → leb n 12 ≡ true
+few_changes n few = ⊎_elim (λ (lt : n < 13). le-leb n 12 (omega arith)) (λ over. absurd (omega (arith, factorial_rises 13 n over, changes_length n))) (cases_lt n 13)

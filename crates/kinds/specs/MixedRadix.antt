@@ -111,11 +111,12 @@ before_few (l ∷ ls) v cap some hold lt few =
     omega (arith, mul-le-mul_right l.below (le_of_lt lt), ap (λ n. l.radix * n) (first_level l ls hold).counts)
 
 -- the branch of a value below the first radix
-pub levels_enter : (reflected : Bool) (levels : List Level) (v : ℕ) → 0 < length levels → levels_hold levels ≡ true → v < (front levels).radix → Stands (mixed reflected (radices levels)) (v ∷ []) (record { from = v * (front levels).below; count = (front levels).below; backward = reflected && odd v }) (mixed reflected (radices (rest_of levels)))
-levels_enter reflected [] v some hold lt = absurd (omega arith)
-levels_enter reflected (l ∷ ls) v some hold lt =
-    subst (λ rest. Stands (mixed reflected (radices (l ∷ ls))) (v ∷ []) (record { from = v * l.below; count = l.below; backward = reflected && odd v }) (mixed reflected (radices rest)))
-    (sym (rest_is l ls)) (radix_enters reflected l ls hold v lt)
+pub levels_enter : (reflected : Bool) (levels : List Level) (v from : ℕ) (back : Bool) → 0 < length levels → levels_hold levels ≡ true → v < (front levels).radix → from ≡ v * (front levels).below → back ≡ (reflected && odd v) → Stands (mixed reflected (radices levels)) (v ∷ []) (record { from = from; count = (front levels).below; backward = back }) (mixed reflected (radices (rest_of levels)))
+levels_enter reflected [] v from back some hold lt before turns = absurd (omega arith)
+levels_enter reflected (l ∷ ls) v from back some hold lt before turns =
+    rw (before, turns)
+    (subst (λ rest. Stands (mixed reflected (radices (l ∷ ls))) (v ∷ []) (record { from = v * l.below; count = l.below; backward = reflected && odd v }) (mixed reflected (radices rest)))
+    (sym (rest_is l ls)) (radix_enters reflected l ls hold v lt))
 
 -- no branch for a larger value
 pub levels_outside : (reflected : Bool) (levels : List Level) (v : ℕ) → 0 < length levels → levels_hold levels ≡ true → (front levels).radix ≤ v → (i : ℕ) (r : Row) → i < length (mixed reflected (radices levels)) → row_at (mixed reflected (radices levels)) i ≢ v ∷ r

@@ -1,8 +1,8 @@
 // The tree of rows with a sum, for `stock`, `choose` and `door`.
-ghost use Rattle.std.specs.Prelude.{◌≡◌, ◌+◌, ◌-◌, ◌<◌, ◌≤◌, true, not, ◌||◌, length, slice_index};
+ghost use Rattle.std.specs.Prelude.{◌≡◌, ◌<◌, ◌≤◌, true, not, ◌||◌, length, sum};
 ghost use Rattle.kinds.specs.Bins.{mosts, bins_hold, filled, node_leaf};
 ghost use Rattle.kinds.specs.Ranges.{all_between};
-ghost use Rattle.kinds.specs.Lists.{ways, total};
+ghost use Rattle.kinds.specs.Lists.{ways};
 ghost use Rattle.kinds.specs.Shapes.{reflects};
 
 use super::shape::{Bin, Order};
@@ -22,18 +22,12 @@ pub struct StockNode<'a> {
     ghost ones: { (not (reflects order) || all_between 1 1 (mosts bins.now)) ≡ true },
 }
 
-// How many rows begin with a smaller value.
-fn rows_before(bin: &Bin, left: u8, value: u8) -> u64
-    requires within { value ≤ left }
-    requires small { left ≤ 32 }
-    requires few { total value (λ w. slice_index bin.now.ways (left - w)) ≤ 4294967295 }
-    ensures { result ≡ total value (λ w. slice_index bin.now.ways (left - w)) }
+// How many rows the counts say together.
+fn rows_of(counts: &[u64]) -> u32
+    requires { sum counts.now ≤ 4294967295 }
+    ensures { result ≡ sum counts.now }
 {
-    let mut before = 0;
-    for w in 0..value {
-        before += bin.ways[usize::from(left - w)];
-    }
-    before
+    counts.iter().sum::<u64>() as u32
 }
 
 impl<'a> StockNode<'a> {
@@ -75,15 +69,17 @@ impl Node for StockNode<'_> {
         if value > bin.most.min(self.left) {
             return None;
         }
-        let count = bin.ways[usize::from(self.left - value)];
+        let behind = usize::from(self.left - value);
+        let count = bin.ways[behind];
         if count == 0 {
             return None;
         }
-        let from = rows_before(bin, self.left, value);
+        // smaller values leave more of the sum to the stocks behind
+        let from = rows_of(&bin.ways[behind + 1..usize::from(self.left) + 1]);
         self.bins = &self.bins[1..];
         self.left -= value;
         Some(Stretch {
-            from: from as u32,
+            from,
             count: count as u32,
             backward: self.order.turns(value),
         })

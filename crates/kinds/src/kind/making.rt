@@ -105,6 +105,7 @@ impl Kind {
     }
 
     // `changes`: every order of the values below n, in which neighbours differ by one exchange of values side by side.
+    #[tactic(auto, using(crate::proofs::MadeTables::few_changes))]
     pub fn changes(n: u16) -> Result<Kind, MakingFault>
         ensures made { Makes kind_meaning result (changes_made n) }
         ensures laws { IfOk result (λ k. ChangesLaws n (kind_meaning k).rows) }
@@ -112,9 +113,7 @@ impl Kind {
         if n > 32 {
             return Err(MakingFault::OutOfRange);
         }
-        let Some(size) = count_changes(n) else {
-            return Err(MakingFault::TooManyRows);
-        };
+        let size = count_changes(n).ok_or(MakingFault::TooManyRows)?;
         Ok(Kind::new(Shape::Changes(n as u8), size, usize::from(n)))
     }
 }

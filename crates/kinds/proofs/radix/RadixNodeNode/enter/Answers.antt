@@ -1,7 +1,6 @@
-use Rattle.std.proofs.Common.{◌*◌, [], ◌∷◌, sym, ap, subst₂, arith}
-use Rattle.kinds.specs.Shapes.{reflects, radices, mixed}
-use Rattle.kinds.specs.Tree.{Stands}
-use Rattle.kinds.specs.Fronts.{rest_of, rest_length}
+use Rattle.std.proofs.Common.{◌*◌, ap, arith}
+use Rattle.kinds.specs.Shapes.{reflects}
+use Rattle.kinds.specs.Fronts.{rest_length}
 use Rattle.kinds.specs.MixedRadix.{front, rest_holds, rest_few, before_few, levels_enter, levels_outside}
 use Rattle.kinds.proofs.radix.RadixNodeNode.enter.Goals as goal
 
@@ -29,10 +28,7 @@ overflow_mul-result c =
 pub returns : goal.returns
 returns c =
     let self = c.args.self.now in
-    let levels = self.levels.now in
     record {
-      branch = subst₂ (λ v back. Stands (mixed (reflects self.order) (radices levels)) (c.args.value ∷ []) (record { from = v * (front levels).below; count = (front levels).below; backward = back }) (mixed (reflects self.order) (radices (rest_of levels))))
-          (sym c.from.ensures) (sym c.turns.ensures)
-          (levels_enter (reflects self.order) levels c.args.value c.requires self.hold c.if-value-radix.false);
-      down = rest_length levels c.requires;
+      branch = levels_enter (reflects self.order) self.levels.now c.args.value _ _ c.requires self.hold c.if-value-radix.false (ap (λ v. v * (front self.levels.now).below) c.from.ensures) c.turns.ensures;
+      down = rest_length self.levels.now c.requires;
     }
