@@ -50,6 +50,10 @@ made_rows true true rows width steady m is = let same : new_walk rows width stea
 made_rows true false rows width steady m is = cc
 made_rows false few rows width steady m is = cc
 
+-- what holds of rows holds of a kind with these rows
+pub rows_hold : (P : List Row → Type 0) (k : Kind) (given rows : List Row) (width : ℕ) (steady : Bool) → kind_meaning k ≡ new_walk given width steady → given ≡ rows → P rows → P (rows_of k.shape)
+rows_hold P k given rows width steady is same holds = subst P (sym (ap (λ m. m.rows) is ∙ same)) holds
+
 -- what holds of these rows holds of what is made
 pub made_holds : (P : List Row → Type 0) (fit : Bool) (rows : List Row) (width : ℕ) (steady : Bool) (r : Result Kind MakingFault) → Makes kind_meaning r (making fit rows width steady) → P rows → IfOk r (λ k. P (kind_meaning k).rows)
 made_holds P fit rows width steady (Ok k) made holds = subst P (made_rows fit (leb (length rows) 4294967295) rows width steady (kind_meaning k) made) holds

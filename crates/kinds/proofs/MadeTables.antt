@@ -12,12 +12,11 @@ use Rattle.kinds.specs.Counts.{Tabled}
 use Rattle.kinds.specs.Kinds.{radices_fit, stocks_fit, choice_fits}
 use Rattle.kinds.specs.Lists.{product, ways, choose, door, words, changes}
 use Rattle.kinds.specs.Ranges.{all_between}
-use Rattle.kinds.specs.Shapes.{radices, mixed, levels_of, levels_hold, sums_hold}
+use Rattle.kinds.specs.Shapes.{radices, levels_of, levels_hold, sums_hold}
 use Rattle.kinds.specs.declared.shape.Bin.{Bin}
 use Rattle.kinds.specs.declared.shape.Level.{Level}
 use Rattle.kinds.specs.Changes.{changes_length}
 use Rattle.kinds.specs.RowSums.{Ones, filled_length}
-use Rattle.kinds.specs.MixedRadix.{mixed_length}
 use Rattle.kinds.proofs.PlainChanges.{factorial_rises}
 use Rattle.kinds.specs.Radices.{radices_of_levels, length_levels, levels_of_hold}
 use Rattle.kinds.specs.WayCounts.{ways_at, mosts_of_bins, length_bins, bins_of_hold}
@@ -76,10 +75,6 @@ radix_table n list levels fit is =
       wide = sym long;
       width = long ∙ all;
     }
-
--- as many rows as were counted
-pub radix_count : (reflected : Bool) (list : List ℕ) (levels : List Level) (size : ℕ) → radices levels ≡ list → size ≡ product list → size ≡ length (mixed reflected (radices levels))
-radix_count reflected list levels size same counts = counts ∙ sym (mixed_length reflected list) ∙ ap (λ rs. length (mixed reflected rs)) (sym same)
 
 -- the bins of a table of stocks and a sum
 pub record SumTable (stocks : List ℕ) (t : ℕ) (bins : List Bin) : Type 0 where

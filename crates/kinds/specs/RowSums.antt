@@ -1,9 +1,9 @@
 -- Rows with a sum, by the counts in their bins. Assumes nothing.
 use Rattle.std.specs.Prelude.{◌≡◌, ℕ, zero, suc, ◌+◌, ◌-◌, ◌<◌, ◌≤◌, min, Bool, true, false, not, ◌&&◌, ◌||◌, List, [], ◌∷◌, length, take, drop, replicate, sum, nat_le, slice_index, slice_index_or, refl}
-use Rattle.std.proofs.Common.{sym, ap, ap₂, subst, ◌∙◌, ⊎_elim, arith}
+use Rattle.std.proofs.Common.{sym, ap, ap₂, subst, ◌∙◌, arith}
 use Rattle.std.proofs.lemmas.List.{drop_more}
 use Rattle.std.proofs.lemmas.List.Sums.{sum_by-cons}
-use Rattle.std.proofs.lemmas.Bool.{and_parts, leb-true, cases_lt}
+use Rattle.std.proofs.lemmas.Bool.{and_parts, leb-true}
 use Rattle.walk.specs.Rows.{odd, same_row}
 use Rattle.walk.proofs.Differences.{equal_from_same}
 use Rattle.kinds.specs.Bins.{mosts, capped_ways, bins_hold, filled}
@@ -23,11 +23,6 @@ use Rattle.kinds.specs.WayCounts.{ways_length, ways_at}
 pub total_same : (f g : ℕ → ℕ) (m : ℕ) → ((v : ℕ) → v < m → f v ≡ g v) → total m f ≡ total m g
 total_same f g zero same = refl
 total_same f g (suc m) same = ap₂ ◌+◌ (total_same f g m (λ v lt. same v (omega arith))) (same m (omega arith))
-
--- a longer sum is no smaller
-pub total_more : (f : ℕ → ℕ) (k m : ℕ) → k ≤ m → total k f ≤ total m f
-total_more f k zero h = let e : k ≡ 0 = omega arith in rw e (omega arith)
-total_more f k (suc m) h = ⊎_elim (λ lt. omega (arith, total_more f k m (omega arith))) (λ (ge : suc m ≤ k). let e : k ≡ suc m = omega arith in rw e (omega arith)) (cases_lt k (suc m))
 
 -- a part of a list, summed from its end
 pub sum_taken : (xs : List ℕ) (t v i n : ℕ) → i + v ≡ t + 1 → n ≡ v → t < length xs → sum (take n (drop i xs)) ≡ total v (λ w. slice_index xs (t - w))

@@ -1,30 +1,27 @@
 -- Every shape keeps the laws of a walk. Assumes nothing.
-use Rattle.std.specs.Prelude.{Vec, ◌≡◌, ℕ, zero, suc, ◌+◌, ◌<◌, ◌≤◌, Bool, true, false, not, ◌&&◌, ◌||◌, List, [], ◌∷◌, length, vec_items, sum, nat_le, slice_index}
-use Rattle.std.proofs.Common.{sym, ap, subst, ◌∙◌, arith}
+use Rattle.std.specs.Prelude.{◌≡◌, ℕ, zero, suc, ◌+◌, ◌<◌, ◌≤◌, Bool, true, false, ◌&&◌, List, [], ◌∷◌, length, vec_items, sum, nat_le, slice_index}
+use Rattle.std.proofs.Common.{◌∙◌, arith}
 use Rattle.std.proofs.lemmas.List.{length-map}
 use Rattle.std.proofs.lemmas.Bool.{and_parts, leb-true, false≢true}
-use Rattle.std.specs.declared.alloc.Global.{Global}
 use Rattle.walk.specs.Rows.{Row, row_at, differences}
 use Rattle.walk.specs.Meaning.{Lawful}
 use Rattle.kinds.specs.Bins.{mosts, bins_hold}
-use Rattle.kinds.specs.Lists.{product, digits, gray, door, ways}
+use Rattle.kinds.specs.Lists.{digits, gray, door}
 use Rattle.kinds.specs.Ranges.{all_between}
 use Rattle.kinds.specs.Laws.{Apart}
 use Rattle.kinds.specs.Kinds.{kind_meaning}
-use Rattle.kinds.specs.Shapes.{radices, reflects, levels_hold, rows_of, width_of, steady_of, sums_hold, shape_holds}
+use Rattle.kinds.specs.Shapes.{radices, levels_hold, rows_of, width_of, steady_of, sums_hold, shape_holds}
 use Rattle.kinds.specs.declared.kind.Kind.{Kind}
 use Rattle.kinds.specs.declared.shape.Bin.{Bin}
 use Rattle.kinds.specs.declared.shape.Level.{Level}
-use Rattle.kinds.specs.declared.shape.Order.{Order}
 use Rattle.kinds.specs.declared.shape.Order.TheVariants.{Rising, Reflected}
 use Rattle.kinds.specs.declared.shape.Shape.{Shape}
 use Rattle.kinds.specs.declared.shape.Shape.TheVariants.{Radices, Sums, Words, Changes}
 use Rattle.kinds.specs.Digits.{JustUnder, width_under, bytes_under, digits_under, digits_apart}
 use Rattle.kinds.specs.Door.{door_chosen, door_apart, door_stepping}
 use Rattle.kinds.specs.Gray.{gray_under, gray_apart, gray_stepping}
-use Rattle.kinds.specs.MixedRadix.{first_level, mixed_length}
+use Rattle.kinds.specs.MixedRadix.{first_level}
 use Rattle.kinds.specs.Radices.{between_at}
-use Rattle.kinds.specs.RowSums.{Ones, filled_length}
 use Rattle.kinds.specs.Words.{words_width, words_bytes, words_apart}
 use Rattle.kinds.specs.Changes.{changes_width, changes_bytes, changes_apart, changes_laws}
 use Rattle.kinds.specs.Stock.{stock_width, stock_bytes, stock_apart, width_chosen, bytes_chosen}
@@ -141,35 +138,3 @@ kind_lawful k =
       inside = (λ some. omega arith, λ none. omega arith);
       steps = kept.steps;
     }
-
--- what a node of mixed radices asks of the levels that it is given
-pub record IsRadixNode (seen : List Level) : Type 0 where
-  pub hold : levels_hold seen ≡ true
-  pub few : product (radices seen) ≤ 4294967295
-
--- what a node of rows with a sum asks
-pub record IsSumNode (order : Order) (seen : List Bin) (t : ℕ) : Type 0 where
-  pub hold : bins_hold seen ≡ true
-  pub small : t ≤ 32
-  pub few : ways (mosts seen) t ≤ 4294967295
-  pub some : 0 < ways (mosts seen) t
-  pub ones : Ones (reflects order) (mosts seen)
-
-module _ (k : Kind) where
-  -- a kind of radices has what the node asks
-  pub radix_node : (levels : Vec Level Global) (order : Order) (seen : List Level) → k.shape ≡ Radices levels order → seen ≡ vec_items levels → IsRadixNode seen
-  radix_node levels order seen is at =
-      let items = vec_items levels in
-      subst IsRadixNode (sym at) (record {
-        hold = (and_parts (nat_le (length items) 32) (levels_hold items) (sym (ap shape_holds is) ∙ k.holds)).1;
-        few = omega (arith, k.few, k.counted, ap (λ s. length (rows_of s)) is, mixed_length (reflects order) (radices items));
-      })
-
-  -- a kind of stocks that has rows has what the node asks
-  pub sum_node : (bins : Vec Bin Global) (t : ℕ) (order : Order) (seen : List Bin) → k.shape ≡ Sums bins t order → seen ≡ vec_items bins → 0 < k.size → IsSumNode order seen t
-  sum_node bins t order seen is at some =
-      let stocks = mosts (vec_items bins) in
-      let parts = and_parts (not (reflects order) || all_between 1 1 stocks) _ (sym (ap shape_holds is) ∙ k.holds) in
-      let sums = sums_parts (vec_items bins) t parts.1 in
-      let long = ap (λ s. length (rows_of s)) is ∙ filled_length (reflects order) stocks t parts.0 in
-      subst (λ b. IsSumNode order b t) (sym at) (record { hold = sums.hold; small = sums.sum; few = omega (arith, k.few, k.counted); some = omega (arith, k.counted); ones = parts.0 })

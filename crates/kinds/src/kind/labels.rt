@@ -13,6 +13,7 @@ use super::Kind;
 
 impl Kind {
     // Writes the row at the place into a tray as wide as a row.
+    #[tactic(auto, using(crate::specs::MixedRadix::mixed_length, crate::specs::RowSums::filled_length))]
     pub(crate) fn write_row(&self, tray: &mut [u8])
         requires some { 0 < self.now.size }
         requires wide { length tray.old ≡ self.now.width }
@@ -32,6 +33,7 @@ impl Kind {
     }
 
     // The label of a row as wide as the kind's rows.
+    #[tactic(auto, using(crate::specs::MixedRadix::mixed_length, crate::specs::RowSums::filled_length))]
     pub(crate) fn find_row(&self, row: &[u8]) -> Option<u32>
         requires wide { length row.now ≡ self.now.width }
         ensures { result ≡ label_of (rows_of self.now.shape) row.now }

@@ -31,7 +31,7 @@ impl Kind {
     }
 
     // The rows of n radices in an order.
-    #[tactic(auto, using(crate::specs::MixedRadix::mixed_length))]
+    #[tactic(auto, using(crate::specs::MixedRadix::mixed_length, crate::proofs::MadeTables::radix_table, crate::specs::Radices::radices_of_levels, crate::specs::Radices::length_levels))]
     fn radices(heap: Global, n: u16, list: &[u16], order: Order) -> Result<Kind, MakingFault>
         ensures { Makes kind_meaning result (making (radices_fit n list.now) (mixed (reflects order) list.now) n (reflects order)) }
     {
@@ -67,6 +67,7 @@ impl Kind {
     }
 
     // `stock`: every row with each value at most its stock and the sum t, in rising order.
+    #[tactic(auto, using(crate::specs::Stock::stock_length, crate::proofs::MadeTables::stock_table, crate::specs::WayCounts::mosts_of_bins, crate::specs::WayCounts::length_bins))]
     pub fn stock(heap: Global, n: u16, t: u16, list: &[u16]) -> Result<Kind, MakingFault>
         ensures made { Makes kind_meaning result (stock_made n t list.now) }
         ensures laws { IfOk result (λ k. StockLaws list.now t (kind_meaning k).rows) }

@@ -5,16 +5,8 @@ use Rattle.kinds.specs.MixedRadix.{mixed_length}
 use Rattle.kinds.specs.Shapes.{reflects, mixed}
 use Rattle.kinds.specs.declared.shape.Shape.TheVariants.{Radices}
 use Rattle.kinds.proofs.Made.{walk_of_table}
-use Rattle.kinds.proofs.MadeTables.{RadixRows, radix_table, radix_count}
+use Rattle.kinds.proofs.MadeTables.{RadixRows, radix_table}
 use Rattle.kinds.proofs.kind.Kind.radices.Goals as goal
-
-pub new-requires : goal.new-requires
-new-requires c =
-    let list = c.args.list.now in
-    let told = c.in_ok-levels.ensures in
-    let levels = vec_items c.in_ok-levels.levels in
-    let table = radix_table c.args.n list levels told.0 told.2.0 in
-    record { holds = table.holds; counted = radix_count (reflects c.args.order) list levels c.in_ok-levels.size table.same told.2.1; wide = table.wide }
 
 pub returns : goal.returns
 returns c =
