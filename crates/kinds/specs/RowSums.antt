@@ -13,7 +13,7 @@ use Rattle.kinds.specs.Tree.{Stands}
 use Rattle.kinds.specs.declared.shape.Bin.{Bin}
 use Rattle.kinds.specs.declared.sums.StockNode.{StockNode}
 use Rattle.kinds.specs.Door.{door_length}
-use Rattle.kinds.specs.Fronts.{rest_of, rest_is}
+use Rattle.kinds.specs.Fronts.{rest_of, rest_is, rest_length}
 use Rattle.kinds.specs.Nodes.{Nowhere, Begins, ways_before, stock_enters, stock_outside, stock_picks, ways_within, door_enters, door_outside, door_picks}
 use Rattle.kinds.specs.Shapes.{reflects}
 use Rattle.kinds.specs.Stock.{stock_length}
@@ -204,3 +204,6 @@ module _ (self : StockNode) (bin : 0 < length self.bins.now) where
 
   pub rest_ones : Ones reflected stocks
   rest_ones = ones_rest reflected most stocks all_ones
+
+-- what a step to the bins behind the first keeps
+pub ruleset entering = (first_bin, rest_few, rest_ones, count_is, counts_few, before_few, node_outside, rest_length)

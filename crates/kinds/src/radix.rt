@@ -34,10 +34,12 @@ impl Node for RadixNode<'_> {
 
     ghost leaf = { λ n none. mixed_leaf (reflects n.order) n.levels.now none };
 
+    #[tactic(auto, using(crate::specs::MixedRadix::levels_some, crate::specs::MixedRadix::levels_pick))]
     fn pick(&self, label: u32) -> u8 {
         (label / self.levels[0].below) as u8
     }
 
+    #[tactic(auto, using(crate::specs::MixedRadix::entering))]
     fn enter(&mut self, value: u8) -> Option<Stretch> {
         let Level { radix, below } = self.levels[0];
         self.levels = &self.levels[1..];

@@ -54,6 +54,7 @@ impl Node for StockNode<'_> {
     fn pick(&self, label: u32) -> u8 {
         let bin = &self.bins[0];
         let mut rest = u64::from(label);
+        // a loop, since the rest of the label runs along: in `try_fold` the value found would be the error
         for value in 0..=bin.most.min(self.left) {
             let count = bin.ways[usize::from(self.left - value)];
             if rest < count {
@@ -64,6 +65,7 @@ impl Node for StockNode<'_> {
         0
     }
 
+    #[tactic(auto, using(crate::specs::RowSums::entering))]
     fn enter(&mut self, value: u8) -> Option<Stretch> {
         let bin = &self.bins[0];
         if value > bin.most.min(self.left) {
