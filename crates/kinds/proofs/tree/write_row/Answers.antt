@@ -4,15 +4,6 @@ use Rattle.walk.specs.Rows.{row_at}
 use Rattle.kinds.proofs.Stretches.{stands_at, leaf_row}
 use Rattle.kinds.proofs.tree.write_row.Goals as goal
 
-pub returns-in_default : goal.returns-in_default
-returns-in_default g c = let first = c.pick-value.ensures in absurd (c.in_default.ensures.branch _ _ c.loop-cell.invariant.1 first.1)
-
-pub label_within-rest-requires : goal.label_within-rest-requires
-label_within-rest-requires g c =
-    let first = c.pick-value.ensures in
-    let range = c.in-Some.ensures.branch.only _ first.0 c.loop-cell.invariant.1 first.1 in
-    record { from = range.0; to = range.1 }
-
 pub loop-cell-preserved : goal.loop-cell-preserved
 loop-cell-preserved g c =
     let tray = c.loop-cell.tray in
