@@ -1,5 +1,5 @@
 -- What is known of the tables from which kinds are made. Assumes nothing.
-use Rattle.std.proofs.Common.{◌≡◌, ℕ, zero, suc, ◌-◌, ◌<◌, ◌≤◌, Bool, true, false, cond, not, ◌&&◌, ◌||◌, eqb, leb, List, length, get_or, take, replicate, Err, vec_items, sum, Result, Vec, sym, refl, ap, ◌∙◌, subst, ap₂, ⊎_elim, arith}
+use Rattle.std.proofs.Common.{◌≡◌, ℕ, zero, suc, ◌-◌, ◌<◌, ◌≤◌, Bool, true, false, not, ◌&&◌, ◌||◌, eqb, leb, List, length, get_or, take, replicate, Err, vec_items, sum, Result, Vec, sym, refl, ap, ◌∙◌, subst, ap₂, ⊎_elim, arith}
 use native.Mathlib.Nat.{sub-zero}
 use lib.ListN.{length-replicate}
 use Rattle.std.specs.declared.alloc.Global.{Global}
@@ -10,9 +10,9 @@ use Rattle.walk.specs.declared.making.MakingFault.TheVariants.{NoMemory}
 use Rattle.kinds.specs.Bins.{mosts, bins_of, bins_hold, filled, capped, capped_ways}
 use Rattle.kinds.specs.Counts.{Tabled}
 use Rattle.kinds.specs.Kinds.{radices_fit, stocks_fit, choice_fits}
-use Rattle.kinds.specs.Lists.{product, ways, choose, door, words, changes}
+use Rattle.kinds.specs.Lists.{product, ways, door, words, changes}
 use Rattle.kinds.specs.Ranges.{all_between}
-use Rattle.kinds.specs.Shapes.{radices, levels_of, levels_hold, sums_hold}
+use Rattle.kinds.specs.Shapes.{chosen, radices, levels_of, levels_hold, sums_hold}
 use Rattle.kinds.specs.declared.shape.Bin.{Bin}
 use Rattle.kinds.specs.declared.shape.Level.{Level}
 use Rattle.kinds.specs.Changes.{changes_length}
@@ -122,18 +122,18 @@ ones_either true n = between_replicate 1 1 1 n (omega arith) (omega arith)
 ones_either false n = refl
 
 -- the rows of n stocks of 1
-pub choice_rows : (reflected : Bool) (n t : ℕ) → filled reflected (replicate n 1) t ≡ cond reflected (door n t) (choose n t)
+pub choice_rows : (reflected : Bool) (n t : ℕ) → filled reflected (replicate n 1) t ≡ chosen reflected n t
 choice_rows true n t = ap (λ m. door m t) (length-replicate n 1)
 choice_rows false n t = refl
 
 -- are as many as the ways
-pub choice_length : (reflected : Bool) (n t : ℕ) → length (cond reflected (door n t) (choose n t)) ≡ ways (replicate n 1) t
+pub choice_length : (reflected : Bool) (n t : ℕ) → length (chosen reflected n t) ≡ ways (replicate n 1) t
 choice_length reflected n t = ap length (sym (choice_rows reflected n t)) ∙ filled_length reflected (replicate n 1) t (ones_either reflected n)
 
 -- the bins of a table of n stocks of 1, with the rows in an order
 pub record ChoiceTable (reflected : Bool) (n t : ℕ) (bins : List Bin) (size : ℕ) : Type 0 where
   pub holds : ((not reflected || all_between 1 1 (mosts bins)) && sums_hold bins t) ≡ true
-  pub same : filled reflected (mosts bins) t ≡ cond reflected (door n t) (choose n t)
+  pub same : filled reflected (mosts bins) t ≡ chosen reflected n t
   pub counted : size ≡ length (filled reflected (mosts bins) t)
   pub wide : length bins ≡ n
 

@@ -3,7 +3,7 @@ use Rattle.std.specs.Prelude.{◌≡◌, ℕ, Bool, true, false, cond, not, ◌&
 use Rattle.std.proofs.Common.{arith}
 use Rattle.walk.specs.Rows.{Row}
 use Rattle.kinds.specs.Bins.{mosts, bins_hold, filled}
-use Rattle.kinds.specs.Lists.{product, digits, gray, words, changes}
+use Rattle.kinds.specs.Lists.{product, digits, gray, choose, door, words, changes}
 use Rattle.kinds.specs.Ranges.{all_between}
 use Rattle.kinds.specs.declared.shape.Bin.{Bin}
 use Rattle.kinds.specs.declared.shape.Level.{Level}
@@ -35,6 +35,10 @@ mixed_leaf true [] none = refl
 mixed_leaf false [] none = refl
 mixed_leaf true (l ∷ ls) none = absurd (omega arith)
 mixed_leaf false (l ∷ ls) none = absurd (omega arith)
+
+-- the rows of n values of which t are 1 and the others 0
+abbrev pub chosen : Bool → ℕ → ℕ → List Row
+chosen reflected n t = cond reflected (door n t) (choose n t)
 
 -- each radix is from 1 to 255, and has the number of rows of the radices after it
 abbrev pub levels_hold : List Level → Bool

@@ -1,10 +1,9 @@
 // Makes the kinds from the numbers of a plan.
-ghost use Rattle.std.specs.Prelude.{◌≡◌, true, cond, length, IfOk};
+ghost use Rattle.std.specs.Prelude.{◌≡◌, true, length, IfOk};
 ghost use Rattle.walk.specs.Making.{new_walk, Makes};
 ghost use Rattle.kinds.specs.Kinds.{kind_meaning, making, radices_fit, choice_fits, digits_made, gray_made, stock_made, choose_made, door_made, words_made, changes_made};
 ghost use Rattle.kinds.specs.Laws.{DigitsLaws, GrayLaws, StockLaws, ChooseLaws, DoorLaws, WordsLaws, ChangesLaws};
-ghost use Rattle.kinds.specs.Lists.{choose, door};
-ghost use Rattle.kinds.specs.Shapes.{reflects, mixed, rows_of, width_of, steady_of, shape_holds};
+ghost use Rattle.kinds.specs.Shapes.{reflects, mixed, chosen, rows_of, width_of, steady_of, shape_holds};
 
 use super::super::multiset::total;
 use super::super::plain_changes::count_changes;
@@ -41,7 +40,7 @@ impl Kind {
 
     // The rows of n values of which t are 1 and the others 0, in an order.
     fn choices(heap: Global, n: u16, t: u16, order: Order) -> Result<Kind, MakingFault>
-        ensures { Makes kind_meaning result (making (choice_fits n t) (cond (reflects order) (door n t) (choose n t)) n (reflects order)) }
+        ensures { Makes kind_meaning result (making (choice_fits n t) (chosen (reflects order) n t) n (reflects order)) }
     {
         let (bins, size) = choice_table(heap, n, t)?;
         let shape = Shape::Sums(bins, t as u8, order);
