@@ -107,6 +107,7 @@ stocks_fitting n t list fit =
     let c = and_parts (eqb (length list) n) _ b.1 in
     record { n_small = leb-true n 32 a.0; t_small = leb-true t 32 b.0; long = eqb-true (length list) n c.0; all = c.1 }
 
+-- stocks that fit have one
 pub stock_table : (n t : ℕ) (list : List ℕ) (bins : List Bin) → stocks_fit n t list ≡ true → bins ≡ bins_of list → SumTable list t bins
 stock_table n t list bins fits is = let fit = stocks_fitting n t list fits in sum_table list t bins is (omega (arith, fit.n_small, fit.long)) fit.all fit.t_small
 
@@ -126,7 +127,7 @@ pub choice_rows : (reflected : Bool) (n t : ℕ) → filled reflected (replicate
 choice_rows true n t = ap (λ m. door m t) (length-replicate n 1)
 choice_rows false n t = refl
 
--- are as many as the ways
+-- these are as many as the ways
 pub choice_length : (reflected : Bool) (n t : ℕ) → length (chosen reflected n t) ≡ ways (replicate n 1) t
 choice_length reflected n t = ap length (sym (choice_rows reflected n t)) ∙ filled_length reflected (replicate n 1) t (ones_either reflected n)
 
