@@ -1,10 +1,11 @@
 -- Every shape keeps the laws of a walk. Assumes nothing.
-use Rattle.std.specs.Prelude.{◌≡◌, ℕ, zero, suc, ◌+◌, ◌<◌, ◌≤◌, Bool, true, false, ◌&&◌, List, [], ◌∷◌, length, vec_items, sum, nat_le, slice_index}
-use Rattle.std.proofs.Common.{◌∙◌, arith}
+use Rattle.std.specs.Prelude.{◌≡◌, ℕ, zero, suc, ◌+◌, ◌<◌, ◌≤◌, Bool, true, false, ◌&&◌, List, [], ◌∷◌, length, vec_items, sum, None, ◌≢◌, nat_le, slice_index}
+use Rattle.std.proofs.Common.{sym, ap, ◌∙◌, arith}
 use Rattle.std.proofs.lemmas.List.{length-map}
 use Rattle.std.proofs.lemmas.Bool.{and_parts, leb-true, false≢true}
-use Rattle.walk.specs.Rows.{Row, row_at, differences}
+use Rattle.walk.specs.Rows.{Row, row_at, label_of, differences}
 use Rattle.walk.specs.Meaning.{Lawful}
+use Rattle.walk.proofs.Differences.{label_of_missing}
 use Rattle.kinds.specs.Bins.{mosts, bins_hold}
 use Rattle.kinds.specs.Lists.{digits, gray, door}
 use Rattle.kinds.specs.Ranges.{all_between}
@@ -138,3 +139,11 @@ kind_lawful k =
       inside = (λ some. omega arith, λ none. omega arith);
       steps = kept.steps;
     }
+
+-- no row is in a kind that has none
+pub no_rows : (k : Kind) (r : Row) → k.size ≡ 0 → label_of (rows_of k.shape) r ≡ None
+no_rows k r none = label_of_missing (rows_of k.shape) r (λ i lt is. omega (arith, k.counted))
+
+-- nor is a row of another width
+pub other_width : (k : Kind) (r : Row) → length r ≢ k.width → label_of (rows_of k.shape) r ≡ None
+other_width k r other = label_of_missing (rows_of k.shape) r (λ i lt is. other (sym (ap length is) ∙ (kind_lawful k).wide i lt ∙ sym k.wide))

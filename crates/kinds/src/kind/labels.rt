@@ -32,14 +32,13 @@ impl Kind {
         }
     }
 
-    // The label of a row as wide as the kind's rows.
-    #[tactic(auto, using(crate::specs::MixedRadix::mixed_length, crate::specs::RowSums::filled_length))]
+    // The label of a row, if it is one of the kind's.
+    #[tactic(auto, using(crate::specs::MixedRadix::mixed_length, crate::specs::RowSums::filled_length, crate::specs::ShapeLaws::no_rows, crate::specs::ShapeLaws::other_width))]
     pub(crate) fn find_row(&self, row: &[u8]) -> Option<u32>
-        requires wide { length row.now ≡ self.now.width }
         ensures { result ≡ label_of (rows_of self.now.shape) row.now }
     {
         let size = self.size;
-        if size == 0 {
+        if size == 0 || row.len() != self.width {
             return None;
         }
         match &self.shape {

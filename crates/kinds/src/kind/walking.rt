@@ -47,9 +47,6 @@ impl Walk for Kind {
     }
 
     fn find(&self, row: &[u8]) -> Result<u32, Refusal> {
-        if row.len() != self.width {
-            return Err(Refusal::NoSuchRow);
-        }
         self.find_row(row).ok_or(Refusal::NoSuchRow)
     }
 }
