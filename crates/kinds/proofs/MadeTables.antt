@@ -10,7 +10,7 @@ use Rattle.walk.specs.declared.making.MakingFault.TheVariants.{NoMemory}
 use Rattle.kinds.specs.Bins.{mosts, bins_of, bins_hold, filled, capped, capped_ways}
 use Rattle.kinds.specs.Counts.{Tabled}
 use Rattle.kinds.specs.Kinds.{radices_fit, stocks_fit, choice_fits}
-use Rattle.kinds.specs.Lists.{product, ways, door, words, changes}
+use Rattle.kinds.specs.Lists.{product, ways, door, changes}
 use Rattle.kinds.specs.Ranges.{all_between}
 use Rattle.kinds.specs.Shapes.{chosen, radices, levels_of, levels_hold, sums_hold}
 use Rattle.kinds.specs.declared.shape.Bin.{Bin}
@@ -42,10 +42,6 @@ RadixRows list x = (vec_items x.0 ≡ levels_of list) × (x.1 ≡ product list)
 -- the bins and the count that a table of stocks has
 abbrev pub SumRows : List ℕ → ℕ → Vec Bin Global × ℕ → Type 0
 SumRows stocks t x = (vec_items x.0 ≡ bins_of stocks) × (x.1 ≡ ways stocks t)
-
--- the counts and the count of their words that a table of words has
-abbrev pub WordRows : List ℕ → Vec ℕ Global × ℕ → Type 0
-WordRows list x = (vec_items x.0 ≡ list) × (x.1 ≡ length (words list))
 
 -- want of memory, once the rows are counted
 pub tabled_no_memory : {X : Type 0} (fit : Bool) (count : ℕ) (P : X → Type 0) (r : Result X MakingFault) (y : MakingFault) → r ≡ Err y → y ≡ NoMemory → fit ≡ true → count ≤ 4294967295 → Tabled fit count P r
