@@ -23,7 +23,7 @@ pub struct StockNode<'a> {
 }
 
 // How many rows the counts say together.
-fn rows_of(counts: &[u64]) -> u32
+fn total(counts: &[u64]) -> u32
     requires { sum counts.now ≤ 4294967295 }
     ensures { result ≡ sum counts.now }
 {
@@ -77,7 +77,7 @@ impl Node for StockNode<'_> {
             return None;
         }
         // smaller values leave more of the sum to the stocks behind
-        let from = rows_of(&bin.ways[behind + 1..usize::from(self.left) + 1]);
+        let from = total(&bin.ways[behind + 1..usize::from(self.left) + 1]);
         self.bins = &self.bins[1..];
         self.left -= value;
         Some(Stretch {

@@ -14,4 +14,4 @@ returns-clause-branch c =
     let within : c.args.value ≤ min (front self.bins.now).most self.left = omega (arith, c.min.ensures, c.if-value-min.false) in
     let before = before_read self c.requires c.args.value _ _ (omega arith) (omega arith) in
     let read = ap (λ i. get_or (front self.bins.now).ways i 0) c.from-behind.ensures in
-    node_enters self c.requires c.args.value _ _ _ within (c.rows_of-from.ensures ∙ before) read c.turns.ensures
+    node_enters self c.requires c.args.value _ _ _ within (c.total-from.ensures ∙ before) read c.turns.ensures
