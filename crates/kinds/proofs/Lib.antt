@@ -1,4 +1,5 @@
 pub mod Made
+pub mod MadeLaws
 pub mod MadeTables
 pub mod PlainChanges
 pub mod Stretches

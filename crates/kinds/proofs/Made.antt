@@ -1,12 +1,14 @@
 -- What is made of a table of levels. Assumes nothing.
-use Rattle.std.proofs.Common.{◌≡◌, ℕ, ◌<◌, ◌≤◌, Bool, true, false, leb, List, length, is_ok, Ok, Err, Result, sym, ap, ◌∙◌, subst, arith}
+use Rattle.std.proofs.Common.{◌≡◌, ℕ, ◌<◌, ◌≤◌, Bool, true, false, leb, cond, List, length, is_ok, Ok, Err, Result, sym, ap, ◌∙◌, subst, arith}
+use Rattle.std.specs.Prelude.{IfOk}
 use Rattle.std.proofs.lemmas.Bool.{le-leb, lt-leb, cond-true, cond-false}
 use Rattle.walk.specs.Rows.{Row}
 use Rattle.walk.specs.Meaning.{Meaning}
 use Rattle.kinds.specs.Counts.{Tabled}
 use Rattle.walk.specs.Making.{new_walk, Makes}
-use Rattle.kinds.specs.Kinds.{making}
+use Rattle.kinds.specs.Kinds.{making, kind_meaning}
 use Rattle.kinds.specs.Shapes.{rows_of, width_of, steady_of}
+use Rattle.kinds.specs.declared.kind.Kind.{Kind}
 use Rattle.kinds.specs.declared.shape.Shape.{Shape}
 use Rattle.walk.specs.declared.making.MakingFault.{MakingFault}
 use Rattle.walk.specs.declared.making.MakingFault.TheVariants.{OutOfRange, TooManyRows, NoMemory}
@@ -41,3 +43,18 @@ module _ {X K : Type 0} (P : X → Type 0) (meaning : K → Meaning) (fit : Bool
   walk_of_table x k s told is same_rows same_width_lem same_steady =
       making_ok fit rows width steady told.0 (omega (arith, told.1))
       ∙ ap Ok (sym (is ∙ (λ i. new_walk (same_rows i) (same_width_lem i) (same_steady i))))
+
+-- making answers the rows that it is given
+made_rows : (fit few : Bool) (rows : List Row) (width : ℕ) (steady : Bool) (m : Meaning) → cond fit (cond few (Ok (new_walk rows width steady)) (Err TooManyRows)) (Err OutOfRange) ≡ Ok m → rows ≡ m.rows
+made_rows true true rows width steady m is = let same : new_walk rows width steady ≡ m = cc in ap (λ x. x.rows) same
+made_rows true false rows width steady m is = cc
+made_rows false few rows width steady m is = cc
+
+-- what holds of rows holds of a kind with these rows
+pub rows_hold : (P : List Row → Type 0) (k : Kind) (given rows : List Row) (width : ℕ) (steady : Bool) → kind_meaning k ≡ new_walk given width steady → given ≡ rows → P rows → P (rows_of k.shape)
+rows_hold P k given rows width steady is same holds = subst P (sym (ap (λ m. m.rows) is ∙ same)) holds
+
+-- what holds of these rows holds of what is made
+pub made_holds : (P : List Row → Type 0) (fit : Bool) (rows : List Row) (width : ℕ) (steady : Bool) (r : Result Kind MakingFault) → Makes kind_meaning r (making fit rows width steady) → P rows → IfOk r (λ k. P (kind_meaning k).rows)
+made_holds P fit rows width steady (Ok k) made holds = subst P (made_rows fit (leb (length rows) 4294967295) rows width steady (kind_meaning k) made) holds
+made_holds P fit rows width steady (Err e) made holds = tt

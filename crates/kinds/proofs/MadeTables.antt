@@ -1,5 +1,5 @@
 -- What is known of the tables from which kinds are made. Assumes nothing.
-use Rattle.std.proofs.Common.{◌≡◌, ℕ, zero, suc, ◌-◌, ◌<◌, ◌≤◌, Bool, true, ◌&&◌, eqb, leb, List, length, get_or, take, replicate, Err, vec_items, sum, Result, Vec, sym, refl, ap, ◌∙◌, subst, ap₂, ⊎_elim, arith}
+use Rattle.std.proofs.Common.{◌≡◌, ℕ, zero, suc, ◌-◌, ◌<◌, ◌≤◌, Bool, true, false, not, ◌&&◌, ◌||◌, eqb, leb, List, length, get_or, take, replicate, Err, vec_items, sum, Result, Vec, sym, refl, ap, ◌∙◌, subst, ap₂, ⊎_elim, arith}
 use native.Mathlib.Nat.{sub-zero}
 use lib.ListN.{length-replicate}
 use Rattle.std.specs.declared.alloc.Global.{Global}
@@ -7,18 +7,16 @@ use Rattle.std.proofs.lemmas.List.{take-replicate}
 use Rattle.std.proofs.lemmas.Bool.{and_parts, and_from, cases_lt, leb-true, le-leb, eqb-true}
 use Rattle.walk.specs.declared.making.MakingFault.{MakingFault}
 use Rattle.walk.specs.declared.making.MakingFault.TheVariants.{NoMemory}
-use Rattle.kinds.specs.Bins.{mosts, bins_of, bins_hold, capped, capped_ways}
+use Rattle.kinds.specs.Bins.{mosts, bins_of, bins_hold, filled, capped, capped_ways}
 use Rattle.kinds.specs.Counts.{Tabled}
 use Rattle.kinds.specs.Kinds.{radices_fit, stocks_fit, choice_fits}
-use Rattle.kinds.specs.Lists.{product, ways, stock, door, words, changes}
+use Rattle.kinds.specs.Lists.{product, ways, door, changes}
 use Rattle.kinds.specs.Ranges.{all_between}
-use Rattle.kinds.specs.Shapes.{radices, mixed, levels_of, levels_hold, sums_hold}
+use Rattle.kinds.specs.Shapes.{chosen, radices, levels_of, levels_hold, sums_hold}
 use Rattle.kinds.specs.declared.shape.Bin.{Bin}
 use Rattle.kinds.specs.declared.shape.Level.{Level}
 use Rattle.kinds.specs.Changes.{changes_length}
-use Rattle.kinds.specs.Stock.{stock_length}
-use Rattle.kinds.specs.Door.{door_length}
-use Rattle.kinds.specs.MixedRadix.{mixed_length}
+use Rattle.kinds.specs.RowSums.{Ones, filled_length}
 use Rattle.kinds.proofs.PlainChanges.{factorial_rises}
 use Rattle.kinds.specs.Radices.{radices_of_levels, length_levels, levels_of_hold}
 use Rattle.kinds.specs.WayCounts.{ways_at, mosts_of_bins, length_bins, bins_of_hold}
@@ -44,10 +42,6 @@ RadixRows list x = (vec_items x.0 ≡ levels_of list) × (x.1 ≡ product list)
 -- the bins and the count that a table of stocks has
 abbrev pub SumRows : List ℕ → ℕ → Vec Bin Global × ℕ → Type 0
 SumRows stocks t x = (vec_items x.0 ≡ bins_of stocks) × (x.1 ≡ ways stocks t)
-
--- the counts and the count of their words that a table of words has
-abbrev pub WordRows : List ℕ → Vec ℕ Global × ℕ → Type 0
-WordRows list x = (vec_items x.0 ≡ list) × (x.1 ≡ length (words list))
 
 -- want of memory, once the rows are counted
 pub tabled_no_memory : {X : Type 0} (fit : Bool) (count : ℕ) (P : X → Type 0) (r : Result X MakingFault) (y : MakingFault) → r ≡ Err y → y ≡ NoMemory → fit ≡ true → count ≤ 4294967295 → Tabled fit count P r
@@ -77,10 +71,6 @@ radix_table n list levels fit is =
       wide = sym long;
       width = long ∙ all;
     }
-
--- as many rows as were counted
-pub radix_count : (reflected : Bool) (list : List ℕ) (levels : List Level) (size : ℕ) → radices levels ≡ list → size ≡ product list → size ≡ length (mixed reflected (radices levels))
-radix_count reflected list levels size same counts = counts ∙ sym (mixed_length reflected list) ∙ ap (λ rs. length (mixed reflected rs)) (sym same)
 
 -- the bins of a table of stocks and a sum
 pub record SumTable (stocks : List ℕ) (t : ℕ) (bins : List Bin) : Type 0 where
@@ -113,34 +103,49 @@ stocks_fitting n t list fit =
     let c = and_parts (eqb (length list) n) _ b.1 in
     record { n_small = leb-true n 32 a.0; t_small = leb-true t 32 b.0; long = eqb-true (length list) n c.0; all = c.1 }
 
+-- stocks that fit have one
+pub stock_table : (n t : ℕ) (list : List ℕ) (bins : List Bin) → stocks_fit n t list ≡ true → bins ≡ bins_of list → SumTable list t bins
+stock_table n t list bins fits is = let fit = stocks_fitting n t list fits in sum_table list t bins is (omega (arith, fit.n_small, fit.long)) fit.all fit.t_small
+
 -- n stocks of 1
 pub ones_fitting : (n t : ℕ) → choice_fits n t ≡ true → StocksFit n t (replicate n 1)
 ones_fitting n t fit =
     let a = and_parts (leb n 32) _ fit in
     record { n_small = leb-true n 32 a.0; t_small = leb-true t 32 a.1; long = length-replicate n 1; all = between_replicate 0 32 1 n (omega arith) (omega arith) }
 
--- the bins of a table of n stocks of 1, of which either order of the rows can be made
-pub record ChoiceTable (n t : ℕ) (bins : List Bin) (size : ℕ) : Type 0 where
-  pub holds : sums_hold bins t ≡ true
-  pub ones : (all_between 1 1 (mosts bins) && sums_hold bins t) ≡ true
-  pub same : mosts bins ≡ replicate n 1
-  pub rising : size ≡ length (stock (mosts bins) t)
-  pub revolving : size ≡ length (door (length (mosts bins)) t)
+-- n stocks of 1 may have their rows in either order
+pub ones_either : (reflected : Bool) (n : ℕ) → Ones reflected (replicate n 1)
+ones_either true n = between_replicate 1 1 1 n (omega arith) (omega arith)
+ones_either false n = refl
+
+-- the rows of n stocks of 1
+pub choice_rows : (reflected : Bool) (n t : ℕ) → filled reflected (replicate n 1) t ≡ chosen reflected n t
+choice_rows true n t = ap (λ m. door m t) (length-replicate n 1)
+choice_rows false n t = refl
+
+-- these are as many as the ways
+pub choice_length : (reflected : Bool) (n t : ℕ) → length (chosen reflected n t) ≡ ways (replicate n 1) t
+choice_length reflected n t = ap length (sym (choice_rows reflected n t)) ∙ filled_length reflected (replicate n 1) t (ones_either reflected n)
+
+-- the bins of a table of n stocks of 1, with the rows in an order
+pub record ChoiceTable (reflected : Bool) (n t : ℕ) (bins : List Bin) (size : ℕ) : Type 0 where
+  pub holds : ((not reflected || all_between 1 1 (mosts bins)) && sums_hold bins t) ≡ true
+  pub same : filled reflected (mosts bins) t ≡ chosen reflected n t
+  pub counted : size ≡ length (filled reflected (mosts bins) t)
   pub wide : length bins ≡ n
 
-pub choice_table : (n t : ℕ) (bins : List Bin) (size : ℕ) → choice_fits n t ≡ true → (bins ≡ bins_of (replicate n 1)) × (size ≡ ways (replicate n 1) t) → ChoiceTable n t bins size
-choice_table n t bins size fits told =
+pub choice_table : (reflected : Bool) (n t : ℕ) (bins : List Bin) (size : ℕ) → choice_fits n t ≡ true → (bins ≡ bins_of (replicate n 1)) × (size ≡ ways (replicate n 1) t) → ChoiceTable reflected n t bins size
+choice_table reflected n t bins size fits told =
     let fit = ones_fitting n t fits in
     let table = sum_table (replicate n 1) t bins told.0 (omega (arith, fit.n_small, fit.long)) fit.all fit.t_small in
+    let same = ap (λ s. filled reflected s t) table.same ∙ choice_rows reflected n t in
     record {
-      holds = table.holds;
-      ones = and_from (all_between 1 1 (mosts bins)) _ (ap (all_between 1 1) table.same ∙ between_replicate 1 1 1 n (omega arith) (omega arith)) table.holds;
-      same = table.same;
-      rising = told.1 ∙ sym (stock_length (replicate n 1) t) ∙ ap (λ s. length (stock s t)) (sym table.same);
-      revolving = told.1 ∙ sym (door_length n t) ∙ ap (λ m. length (door m t)) (sym (ap length table.same ∙ fit.long));
+      holds = and_from (not reflected || all_between 1 1 (mosts bins)) _ (subst (Ones reflected) (sym table.same) (ones_either reflected n)) table.holds;
+      same = same;
+      counted = told.1 ∙ sym (choice_length reflected n t) ∙ ap length (sym same);
       wide = table.wide ∙ fit.long;
     }
 
 -- orders that can be counted are of at most 12 values
-pub few_changes : (n : ℕ) → length (changes n) ≤ 4294967295 → n ≤ 12
-few_changes n few = ⊎_elim (λ (lt : n < 13). omega arith) (λ over. absurd (omega (arith, factorial_rises 13 n over, changes_length n))) (cases_lt n 13)
+pub few_changes : (n : ℕ) → length (changes n) ≤ 4294967295 → leb n 12 ≡ true
+few_changes n few = ⊎_elim (λ (lt : n < 13). le-leb n 12 (omega arith)) (λ over. absurd (omega (arith, factorial_rises 13 n over, changes_length n))) (cases_lt n 13)

@@ -1,6 +1,6 @@
 -- How stretches of lists are followed inward and back. Assumes nothing.
-use Rattle.std.proofs.Common.{◌≡◌, ℕ, zero, suc, ◌+◌, ◌-◌, ◌<◌, ◌≤◌, Bool, true, false, cond, not, List, [], ◌∷◌, ◌++◌, length, Some, None, sym, refl, ap, ◌∙◌, subst, arith}
-use Rattle.std.proofs.lemmas.List.{append-nil, append_assoc, append_cancel_left}
+use Rattle.std.proofs.Common.{◌≡◌, ℕ, zero, suc, ◌+◌, ◌-◌, ◌<◌, ◌≤◌, Bool, true, false, cond, not, List, [], ◌∷◌, ◌++◌, length, take, set, Some, None, sym, refl, ap, ◌∙◌, subst, arith}
+use Rattle.std.proofs.lemmas.List.{append-nil, append_assoc, append_cancel_left, take_more_set}
 use Rattle.walk.specs.Rows.{Row, row_at, label_of}
 use Rattle.walk.proofs.Differences.{label_of_first, label_of_missing}
 use Rattle.kinds.specs.declared.stretch.Stretch.{Stretch}
@@ -30,6 +30,10 @@ leaf_row leaf k = ap (λ rows. row_at rows k) leaf ∙ empty k
     empty : (k : ℕ) → row_at ([] ∷ []) k ≡ []
     empty zero = refl
     empty (suc k) = refl
+
+-- a row of which i values are written, with its next value set
+pub one_more : (tray : Row) (i v : ℕ) (row step rest : Row) → i < length tray → row ≡ take i tray ++ step → step ≡ v ∷ rest → row ≡ take (i + 1) (set tray i v) ++ rest
+one_more tray i v row step rest lt is goes = is ∙ ap (λ r. take i tray ++ r) goes ∙ sym (append_assoc (take i tray) (v ∷ []) rest) ∙ ap (λ front. front ++ rest) (sym (take_more_set tray i v lt))
 
 module _ {outer : List Row} {front : Row} {s : Stretch} {inner : List Row} (at : Stands outer front s inner) where
   -- a row of the stretch, by its label in the outer list

@@ -10,7 +10,7 @@ use Rattle.kinds.specs.Tree.{Stands}
 use Rattle.kinds.specs.declared.shape.Level.{Level}
 use Rattle.kinds.specs.Branches.{before, length_uniform, length_turned, row_uniform}
 use Rattle.kinds.specs.Digits.{digits_length}
-use Rattle.kinds.specs.Fronts.{rest_of, rest_is}
+use Rattle.kinds.specs.Fronts.{rest_of, rest_is, rest_length}
 use Rattle.kinds.specs.Gray.{gray_length}
 use Rattle.kinds.specs.Entering.{branch_stands, branch_outside}
 
@@ -111,30 +111,33 @@ before_few (l ∷ ls) v cap some hold lt few =
     omega (arith, mul-le-mul_right l.below (le_of_lt lt), ap (λ n. l.radix * n) (first_level l ls hold).counts)
 
 -- the branch of a value below the first radix
-pub levels_enter : (reflected : Bool) (levels : List Level) (v : ℕ) → 0 < length levels → levels_hold levels ≡ true → v < (front levels).radix → Stands (mixed reflected (radices levels)) (v ∷ []) (record { from = v * (front levels).below; count = (front levels).below; backward = reflected && odd v }) (mixed reflected (radices (rest_of levels)))
-levels_enter reflected [] v some hold lt = absurd (omega arith)
-levels_enter reflected (l ∷ ls) v some hold lt =
-    subst (λ rest. Stands (mixed reflected (radices (l ∷ ls))) (v ∷ []) (record { from = v * l.below; count = l.below; backward = reflected && odd v }) (mixed reflected (radices rest)))
-    (sym (rest_is l ls)) (radix_enters reflected l ls hold v lt)
+pub levels_enter : (reflected : Bool) (levels : List Level) (v from : ℕ) (back : Bool) → 0 < length levels → levels_hold levels ≡ true → v < (front levels).radix → from ≡ v * (front levels).below → back ≡ (reflected && odd v) → Stands (mixed reflected (radices levels)) (v ∷ []) (record { from = from; count = (front levels).below; backward = back }) (mixed reflected (radices (rest_of levels)))
+levels_enter reflected [] v from back some hold lt before turns = absurd (omega arith)
+levels_enter reflected (l ∷ ls) v from back some hold lt before turns =
+    rw (before, turns)
+    (subst (λ rest. Stands (mixed reflected (radices (l ∷ ls))) (v ∷ []) (record { from = v * l.below; count = l.below; backward = reflected && odd v }) (mixed reflected (radices rest)))
+    (sym (rest_is l ls)) (radix_enters reflected l ls hold v lt))
 
 -- no branch for a larger value
 pub levels_outside : (reflected : Bool) (levels : List Level) (v : ℕ) → 0 < length levels → levels_hold levels ≡ true → (front levels).radix ≤ v → (i : ℕ) (r : Row) → i < length (mixed reflected (radices levels)) → row_at (mixed reflected (radices levels)) i ≢ v ∷ r
 levels_outside reflected [] v some hold out = absurd (omega arith)
 levels_outside reflected (l ∷ ls) v some hold out = radix_outside reflected l ls hold v out
 
--- the count of the first level is the divisor by which a label is taken apart
+-- the count of the first level is a divisor
+pub levels_some : (levels : List Level) → 0 < length levels → levels_hold levels ≡ true → 0 < (front levels).below
+levels_some [] some hold = absurd (omega arith)
+levels_some (l ∷ ls) some hold = let level = first_level l ls hold in subst (λ n. 0 < n) (sym level.counts) (some_rows ls level.rest)
+
+-- by it a label is taken apart
 pub record Picks (reflected : Bool) (levels : List Level) (label : ℕ) : Type 0 where
-  pub divisor : 0 < (front levels).below
   pub byte : label / (front levels).below ≤ 255
   pub first : (r : Row) × (row_at (mixed reflected (radices levels)) label ≡ (label / (front levels).below) ∷ r)
 
 pub levels_pick : (reflected : Bool) (levels : List Level) (label : ℕ) → 0 < length levels → levels_hold levels ≡ true → label < length (mixed reflected (radices levels)) → Picks reflected levels label
 levels_pick reflected [] label some hold lt = absurd (omega arith)
 levels_pick reflected (l ∷ ls) label some hold lt =
-    let level = first_level l ls hold in
     let picked = radix_picks reflected l ls hold label lt in
-    record {
-      divisor = subst (λ n. 0 < n) (sym level.counts) (some_rows ls level.rest);
-      byte = omega (arith, level.byte, picked.0);
-      first = picked.1;
-    }
+    record { byte = omega (arith, (first_level l ls hold).byte, picked.0); first = picked.1 }
+
+-- what a step to the levels behind the first keeps
+pub ruleset entering = (rest_holds, rest_few, before_few, levels_outside, rest_length)

@@ -1,7 +1,9 @@
 -- Rows with a sum, by the counts in their bins. Assumes nothing.
-use Rattle.std.specs.Prelude.{◌≡◌, ℕ, zero, suc, ◌+◌, ◌-◌, ◌<◌, ◌≤◌, min, Bool, true, false, not, ◌&&◌, ◌||◌, List, [], ◌∷◌, length, replicate, nat_le, slice_index, slice_index_or, refl}
-use Rattle.std.proofs.Common.{sym, ap, ap₂, subst, subst₂, ◌∙◌, ⊎_elim, arith}
-use Rattle.std.proofs.lemmas.Bool.{and_parts, leb-true, cases_lt}
+use Rattle.std.specs.Prelude.{◌≡◌, ℕ, zero, suc, ◌+◌, ◌-◌, ◌<◌, ◌≤◌, min, Bool, true, false, not, ◌&&◌, ◌||◌, List, [], ◌∷◌, length, take, drop, replicate, sum, nat_le, slice_index, slice_index_or, refl}
+use Rattle.std.proofs.Common.{sym, ap, ap₂, subst, ◌∙◌, arith}
+use Rattle.std.proofs.lemmas.List.{drop_more}
+use Rattle.std.proofs.lemmas.List.Sums.{sum_by-cons}
+use Rattle.std.proofs.lemmas.Bool.{and_parts, leb-true}
 use Rattle.walk.specs.Rows.{odd, same_row}
 use Rattle.walk.proofs.Differences.{equal_from_same}
 use Rattle.kinds.specs.Bins.{mosts, capped_ways, bins_hold, filled}
@@ -11,20 +13,25 @@ use Rattle.kinds.specs.Tree.{Stands}
 use Rattle.kinds.specs.declared.shape.Bin.{Bin}
 use Rattle.kinds.specs.declared.sums.StockNode.{StockNode}
 use Rattle.kinds.specs.Door.{door_length}
-use Rattle.kinds.specs.Fronts.{rest_of, rest_is}
+use Rattle.kinds.specs.Fronts.{rest_of, rest_is, rest_length}
 use Rattle.kinds.specs.Nodes.{Nowhere, Begins, ways_before, stock_enters, stock_outside, stock_picks, ways_within, door_enters, door_outside, door_picks}
+use Rattle.kinds.specs.Shapes.{reflects}
 use Rattle.kinds.specs.Stock.{stock_length}
-use Rattle.kinds.specs.WayCounts.{ways_at}
+use Rattle.kinds.specs.WayCounts.{ways_length, ways_at}
 
 -- sums of the same numbers are the same
 pub total_same : (f g : ℕ → ℕ) (m : ℕ) → ((v : ℕ) → v < m → f v ≡ g v) → total m f ≡ total m g
 total_same f g zero same = refl
 total_same f g (suc m) same = ap₂ ◌+◌ (total_same f g m (λ v lt. same v (omega arith))) (same m (omega arith))
 
--- a longer sum is no smaller
-pub total_more : (f : ℕ → ℕ) (k m : ℕ) → k ≤ m → total k f ≤ total m f
-total_more f k zero h = let e : k ≡ 0 = omega arith in rw e (omega arith)
-total_more f k (suc m) h = ⊎_elim (λ lt. omega (arith, total_more f k m (omega arith))) (λ (ge : suc m ≤ k). let e : k ≡ suc m = omega arith in rw e (omega arith)) (cases_lt k (suc m))
+-- a part of a list, summed from its end
+pub sum_taken : (xs : List ℕ) (t v i n : ℕ) → i + v ≡ t + 1 → n ≡ v → t < length xs → sum (take n (drop i xs)) ≡ total v (λ w. slice_index xs (t - w))
+sum_taken xs t zero i n at all in_range = rw all refl
+sum_taken xs t (suc v) i n at all in_range =
+    let rest = sum_taken xs t v (i + 1) v (omega arith) refl in_range in
+    let back : t - v ≡ i = omega arith in
+    let split : sum (take (suc v) (drop i xs)) ≡ slice_index xs i + sum (take v (drop (i + 1) xs)) = rw (drop_more xs i 0 (omega arith)) (sum_by-cons (λ x. x) (slice_index xs i) (take v (drop (i + 1) xs))) in
+    rw all (omega (arith, split, rest, ap (slice_index xs) back))
 
 -- stocks that are all 1
 pub ones_are : (stocks : List ℕ) → all_between 1 1 stocks ≡ true → stocks ≡ replicate (length stocks) 1
@@ -120,7 +127,7 @@ module _ (self : StockNode) (bin : 0 < length self.bins.now) where
   t = self.left
 
   abbrev reflected : Bool
-  reflected = self.reflected
+  reflected = reflects self.order
 
   -- the counts of the first bin, for a sum that is left
   abbrev pub count_of : ℕ → ℕ
@@ -148,16 +155,26 @@ module _ (self : StockNode) (bin : 0 < length self.bins.now) where
   pub before_is : (v : ℕ) → v ≤ suc (min most t) → total v count_of ≡ ways_before stocks t v
   before_is v h = total_same count_of (λ w. ways stocks (t - w)) v (λ w lt. count_is w (omega arith))
 
-  -- both are labels
+  -- these stand side by side in the first bin
+  pub before_read : (v i n : ℕ) → i + v ≡ t + 1 → n ≡ v → sum (take n (drop i (front bins).ways)) ≡ total v count_of
+  before_read v i n at all =
+      let long : length (front bins).ways ≡ 33 = ap length (first_bin bins bin self.hold).counts ∙ ways_length stocks in
+      sum_taken (front bins).ways t v i n at all (omega (arith, self.small))
+
+  -- it is a label
   pub counts_few : (v : ℕ) → v ≤ min most t → total v count_of + count_of v ≤ 4294967295
   counts_few v h = omega (arith, all_few, ways_within most stocks t v h, before_is v (omega arith), count_is v h)
 
-  pub node_enters : (v : ℕ) → v ≤ min most t → Stands (filled reflected (mosts bins) t) (v ∷ []) (record { from = total v count_of; count = count_of v; backward = reflected && odd v }) (filled reflected stocks (t - v))
-  node_enters v h =
-      subst (λ s. Stands (filled reflected s t) (v ∷ []) (record { from = total v count_of; count = count_of v; backward = reflected && odd v }) (filled reflected stocks (t - v)))
-      (sym (first_bin bins bin self.hold).stocks)
-      (subst₂ (λ a n. Stands (filled reflected (most ∷ stocks) t) (v ∷ []) (record { from = a; count = n; backward = reflected && odd v }) (filled reflected stocks (t - v)))
-      (sym (before_is v (omega arith))) (sym (count_is v h)) (filled_enters most stocks t v reflected all_ones h))
+  -- and so are those before it, together
+  pub before_few : (v i n : ℕ) → v ≤ min most t → i + v ≡ t + 1 → n ≡ v → sum (take n (drop i (front bins).ways)) ≤ 4294967295
+  before_few v i n h at all = omega (arith, before_read v i n at all, counts_few v h)
+
+  -- where the rows that begin with a value stand
+  pub node_enters : (v from count : ℕ) (back : Bool) → v ≤ min most t → from ≡ total v count_of → count ≡ count_of v → back ≡ (reflected && odd v) → Stands (filled reflected (mosts bins) t) (v ∷ []) (record { from = from; count = count; backward = back }) (filled reflected stocks (t - v))
+  node_enters v from count back h before here turns =
+      rw (before ∙ before_is v (omega arith), here ∙ count_is v h, turns)
+      (subst (λ s. Stands (filled reflected s t) (v ∷ []) (record { from = ways_before stocks t v; count = ways stocks (t - v); backward = reflected && odd v }) (filled reflected stocks (t - v)))
+      (sym (first_bin bins bin self.hold).stocks) (filled_enters most stocks t v reflected all_ones h))
 
   pub node_outside : (v : ℕ) → min most t < v → Nowhere (filled reflected (mosts bins) t) v
   node_outside v h = subst (λ s. Nowhere (filled reflected s t) v) (sym (first_bin bins bin self.hold).stocks) (filled_outside most stocks t v reflected all_ones h)
@@ -187,3 +204,6 @@ module _ (self : StockNode) (bin : 0 < length self.bins.now) where
 
   pub rest_ones : Ones reflected stocks
   rest_ones = ones_rest reflected most stocks all_ones
+
+-- what a step to the bins behind the first keeps
+pub ruleset entering = (first_bin, rest_few, rest_ones, count_is, counts_few, before_few, node_outside, rest_length)

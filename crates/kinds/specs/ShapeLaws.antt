@@ -1,27 +1,28 @@
 -- Every shape keeps the laws of a walk. Assumes nothing.
-use Rattle.std.specs.Prelude.{◌≡◌, ℕ, zero, suc, ◌+◌, ◌<◌, ◌≤◌, Bool, true, false, ◌&&◌, List, [], ◌∷◌, length, vec_items, sum, nat_le, slice_index}
-use Rattle.std.proofs.Common.{sym, ap, subst, ◌∙◌, arith}
+use Rattle.std.specs.Prelude.{◌≡◌, ℕ, zero, suc, ◌+◌, ◌<◌, ◌≤◌, Bool, true, false, ◌&&◌, List, [], ◌∷◌, length, vec_items, sum, None, ◌≢◌, nat_le, slice_index}
+use Rattle.std.proofs.Common.{sym, ap, ◌∙◌, arith}
 use Rattle.std.proofs.lemmas.List.{length-map}
 use Rattle.std.proofs.lemmas.Bool.{and_parts, leb-true, false≢true}
-use Rattle.walk.specs.Rows.{Row, row_at, differences}
+use Rattle.walk.specs.Rows.{Row, row_at, label_of, differences}
 use Rattle.walk.specs.Meaning.{Lawful}
-use Rattle.kinds.specs.Bins.{mosts, bins_hold, filled}
-use Rattle.kinds.specs.Lists.{product, digits, gray, door, ways}
+use Rattle.walk.proofs.Differences.{label_of_missing}
+use Rattle.kinds.specs.Bins.{mosts, bins_hold}
+use Rattle.kinds.specs.Lists.{digits, gray, door}
 use Rattle.kinds.specs.Ranges.{all_between}
 use Rattle.kinds.specs.Laws.{Apart}
 use Rattle.kinds.specs.Kinds.{kind_meaning}
-use Rattle.kinds.specs.Shapes.{radices, mixed, levels_hold, rows_of, width_of, steady_of, sums_hold, shape_holds}
+use Rattle.kinds.specs.Shapes.{radices, levels_hold, rows_of, width_of, steady_of, sums_hold, shape_holds}
 use Rattle.kinds.specs.declared.kind.Kind.{Kind}
 use Rattle.kinds.specs.declared.shape.Bin.{Bin}
 use Rattle.kinds.specs.declared.shape.Level.{Level}
+use Rattle.kinds.specs.declared.shape.Order.TheVariants.{Rising, Reflected}
 use Rattle.kinds.specs.declared.shape.Shape.{Shape}
-use Rattle.kinds.specs.declared.shape.Shape.TheVariants.{Digits, Gray, Stock, Door, Words, Changes}
+use Rattle.kinds.specs.declared.shape.Shape.TheVariants.{Radices, Sums, Words, Changes}
 use Rattle.kinds.specs.Digits.{JustUnder, width_under, bytes_under, digits_under, digits_apart}
 use Rattle.kinds.specs.Door.{door_chosen, door_apart, door_stepping}
 use Rattle.kinds.specs.Gray.{gray_under, gray_apart, gray_stepping}
-use Rattle.kinds.specs.MixedRadix.{first_level, mixed_length}
+use Rattle.kinds.specs.MixedRadix.{first_level}
 use Rattle.kinds.specs.Radices.{between_at}
-use Rattle.kinds.specs.RowSums.{Ones, filled_length}
 use Rattle.kinds.specs.Words.{words_width, words_bytes, words_apart}
 use Rattle.kinds.specs.Changes.{changes_width, changes_bytes, changes_apart, changes_laws}
 use Rattle.kinds.specs.Stock.{stock_width, stock_bytes, stock_apart, width_chosen, bytes_chosen}
@@ -56,13 +57,13 @@ under_kept levels rows steady holds just apart steps =
     }
 
 -- what is known of bins and a sum
-pub record Sums (bins : List Bin) (t : ℕ) : Type 0 where
+pub record SumParts (bins : List Bin) (t : ℕ) : Type 0 where
   pub hold : bins_hold bins ≡ true
   pub short : length bins ≤ 32
   pub small : all_between 0 32 (mosts bins) ≡ true
   pub sum : t ≤ 32
 
-pub sums_parts : (bins : List Bin) (t : ℕ) → sums_hold bins t ≡ true → Sums bins t
+pub sums_parts : (bins : List Bin) (t : ℕ) → sums_hold bins t ≡ true → SumParts bins t
 sums_parts bins t holds =
     let a = and_parts (bins_hold bins) _ holds in
     let b = and_parts (nat_le (length bins) 32) _ a.1 in
@@ -71,13 +72,13 @@ sums_parts bins t holds =
 
 -- the rows of a shape that holds
 pub shape_kept : (s : Shape) → shape_holds s ≡ true → Kept (rows_of s) (width_of s) (steady_of s)
-shape_kept (Digits levels) holds =
+shape_kept (Radices levels Rising) holds =
     let rs = radices (vec_items levels) in
     under_kept (vec_items levels) (digits rs) false holds (digits_under rs) (digits_apart rs) (λ no_yes. absurd (false≢true no_yes))
-shape_kept (Gray levels) holds =
+shape_kept (Radices levels Reflected) holds =
     let rs = radices (vec_items levels) in
     under_kept (vec_items levels) (gray rs) true holds (gray_under rs) (gray_apart rs) (λ yes_yes i lt. omega (arith, gray_stepping rs i lt))
-shape_kept (Stock bins t) holds =
+shape_kept (Sums bins t Rising) holds =
     let stocks = mosts (vec_items bins) in
     let sums = sums_parts (vec_items bins) t holds in
     let long : length stocks ≡ length (vec_items bins) = length-map (vec_items bins) (λ b. b.most) in
@@ -88,7 +89,7 @@ shape_kept (Stock bins t) holds =
       apart = stock_apart stocks t;
       steps = λ no_yes. absurd (false≢true no_yes);
     }
-shape_kept (Door bins t) holds =
+shape_kept (Sums bins t Reflected) holds =
     let stocks = mosts (vec_items bins) in
     let sums = sums_parts (vec_items bins) t (and_parts (all_between 1 1 stocks) _ holds).1 in
     let long : length stocks ≡ length (vec_items bins) = length-map (vec_items bins) (λ b. b.most) in
@@ -139,30 +140,10 @@ kind_lawful k =
       steps = kept.steps;
     }
 
--- what a node of mixed radices asks of the levels that it is given
-pub record IsRadixNode (seen : List Level) : Type 0 where
-  pub hold : levels_hold seen ≡ true
-  pub few : product (radices seen) ≤ 4294967295
+-- no row is in a kind that has none
+pub no_rows : (k : Kind) (r : Row) → k.size ≡ 0 → label_of (rows_of k.shape) r ≡ None
+no_rows k r none = label_of_missing (rows_of k.shape) r (λ i lt is. omega (arith, k.counted))
 
--- a shape of levels that holds has what the node asks
-pub radix_node : (reflected : Bool) (s : Shape) (seen items : List Level) → seen ≡ items → shape_holds s ≡ (nat_le (length items) 32 && levels_hold items) → rows_of s ≡ mixed reflected (radices items) → shape_holds s ≡ true → length (rows_of s) ≤ 4294967295 → IsRadixNode seen
-radix_node reflected s seen items is holding rows holds few =
-    subst IsRadixNode (sym is) (record {
-      hold = (and_parts (nat_le (length items) 32) (levels_hold items) (sym holding ∙ holds)).1;
-      few = omega (arith, few, ap length rows ∙ mixed_length reflected (radices items));
-    })
-
--- what a node of rows with a sum asks
-pub record IsSumNode (reflected : Bool) (seen : List Bin) (t : ℕ) : Type 0 where
-  pub hold : bins_hold seen ≡ true
-  pub small : t ≤ 32
-  pub few : ways (mosts seen) t ≤ 4294967295
-  pub some : 0 < ways (mosts seen) t
-  pub ones : Ones reflected (mosts seen)
-
--- a shape of bins that holds, and has rows, has what the node asks
-pub sum_node : (reflected : Bool) (s : Shape) (seen items : List Bin) (t : ℕ) → seen ≡ items → sums_hold items t ≡ true → Ones reflected (mosts items) → rows_of s ≡ filled reflected (mosts items) t → 0 < length (rows_of s) → length (rows_of s) ≤ 4294967295 → IsSumNode reflected seen t
-sum_node reflected s seen items t is holds ones rows some few =
-    let sums = sums_parts items t holds in
-    let long = ap length rows ∙ filled_length reflected (mosts items) t ones in
-    subst (λ b. IsSumNode reflected b t) (sym is) (record { hold = sums.hold; small = sums.sum; few = omega arith; some = omega arith; ones = ones })
+-- nor is a row of another width
+pub other_width : (k : Kind) (r : Row) → length r ≢ k.width → label_of (rows_of k.shape) r ≡ None
+other_width k r other = label_of_missing (rows_of k.shape) r (λ i lt is. other (sym (ap length is) ∙ (kind_lawful k).wide i lt ∙ sym k.wide))

@@ -1,14 +1,21 @@
 -- What a shape means: its rows, their width, and its answer to `steady`. Assumes nothing.
-use Rattle.std.specs.Prelude.{◌≡◌, ℕ, Bool, true, false, cond, ◌&&◌, List, [], ◌∷◌, map, length, vec_items, sum, ◌==◌, nat_le, refl}
+use Rattle.std.specs.Prelude.{◌≡◌, ℕ, Bool, true, false, cond, not, ◌&&◌, ◌||◌, List, [], ◌∷◌, map, length, vec_items, sum, ◌==◌, nat_le, refl}
 use Rattle.std.proofs.Common.{arith}
 use Rattle.walk.specs.Rows.{Row}
-use Rattle.kinds.specs.Bins.{mosts, bins_hold}
-use Rattle.kinds.specs.Lists.{product, digits, gray, stock, door, words, changes}
+use Rattle.kinds.specs.Bins.{mosts, bins_hold, filled}
+use Rattle.kinds.specs.Lists.{product, digits, gray, choose, door, words, changes}
 use Rattle.kinds.specs.Ranges.{all_between}
 use Rattle.kinds.specs.declared.shape.Bin.{Bin}
 use Rattle.kinds.specs.declared.shape.Level.{Level}
+use Rattle.kinds.specs.declared.shape.Order.{Order}
+use Rattle.kinds.specs.declared.shape.Order.TheVariants.{Rising, Reflected}
 use Rattle.kinds.specs.declared.shape.Shape.{Shape}
-use Rattle.kinds.specs.declared.shape.Shape.TheVariants.{Digits, Gray, Stock, Door, Words, Changes}
+use Rattle.kinds.specs.declared.shape.Shape.TheVariants.{Radices, Sums, Words, Changes}
+
+-- whether the rows after an odd value come backward
+abbrev pub reflects : Order → Bool
+reflects Rising = false
+reflects Reflected = true
 
 abbrev pub radices : List Level → List ℕ
 radices levels = map (λ (l : Level). l.radix) levels
@@ -29,33 +36,32 @@ mixed_leaf false [] none = refl
 mixed_leaf true (l ∷ ls) none = absurd (omega arith)
 mixed_leaf false (l ∷ ls) none = absurd (omega arith)
 
+-- the rows of n values of which t are 1 and the others 0
+abbrev pub chosen : Bool → ℕ → ℕ → List Row
+chosen reflected n t = cond reflected (door n t) (choose n t)
+
 -- each radix is from 1 to 255, and has the number of rows of the radices after it
 abbrev pub levels_hold : List Level → Bool
 levels_hold [] = true
 levels_hold (l ∷ ls) = nat_le 1 l.radix && (nat_le l.radix 255 && (l.below == product (radices ls) && levels_hold ls))
 
+-- radices: `digits`, and reflected `gray`; stocks with a sum: `stock`, and reflected `door`
 abbrev pub rows_of : Shape → List Row
-rows_of (Digits levels) = digits (radices (vec_items levels))
-rows_of (Gray levels) = gray (radices (vec_items levels))
-rows_of (Stock bins t) = stock (mosts (vec_items bins)) t
-rows_of (Door bins t) = door (length (mosts (vec_items bins))) t
+rows_of (Radices levels order) = mixed (reflects order) (radices (vec_items levels))
+rows_of (Sums bins t order) = filled (reflects order) (mosts (vec_items bins)) t
 rows_of (Words counts) = words (vec_items counts)
 rows_of (Changes n) = changes n
 
 abbrev pub width_of : Shape → ℕ
-width_of (Digits levels) = length (vec_items levels)
-width_of (Gray levels) = length (vec_items levels)
-width_of (Stock bins t) = length (vec_items bins)
-width_of (Door bins t) = length (vec_items bins)
+width_of (Radices levels order) = length (vec_items levels)
+width_of (Sums bins t order) = length (vec_items bins)
 width_of (Words counts) = sum (vec_items counts)
 width_of (Changes n) = n
 
--- a kind's name decides whether it is steady
+-- reflected rows are steady, and so are `changes`
 abbrev pub steady_of : Shape → Bool
-steady_of (Digits levels) = false
-steady_of (Gray levels) = true
-steady_of (Stock bins t) = false
-steady_of (Door bins t) = true
+steady_of (Radices levels order) = reflects order
+steady_of (Sums bins t order) = reflects order
 steady_of (Words counts) = false
 steady_of (Changes n) = true
 
@@ -63,11 +69,9 @@ steady_of (Changes n) = true
 abbrev pub sums_hold : List Bin → ℕ → Bool
 sums_hold bins t = bins_hold bins && (nat_le (length bins) 32 && (all_between 0 32 (mosts bins) && nat_le t 32))
 
--- the counts in a shape are right, and its numbers within their ranges
+-- the counts in a shape are right, and its numbers within their ranges; reflected stocks are all 1
 abbrev pub shape_holds : Shape → Bool
-shape_holds (Digits levels) = nat_le (length (vec_items levels)) 32 && levels_hold (vec_items levels)
-shape_holds (Gray levels) = nat_le (length (vec_items levels)) 32 && levels_hold (vec_items levels)
-shape_holds (Stock bins t) = sums_hold (vec_items bins) t
-shape_holds (Door bins t) = all_between 1 1 (mosts (vec_items bins)) && sums_hold (vec_items bins) t
+shape_holds (Radices levels order) = nat_le (length (vec_items levels)) 32 && levels_hold (vec_items levels)
+shape_holds (Sums bins t order) = (not (reflects order) || all_between 1 1 (mosts (vec_items bins))) && sums_hold (vec_items bins) t
 shape_holds (Words counts) = nat_le (length (vec_items counts)) 32 && nat_le (sum (vec_items counts)) 32
 shape_holds (Changes n) = nat_le n 12

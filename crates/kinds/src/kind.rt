@@ -1,4 +1,5 @@
 // A walk of one of the kinds.
+mod labels;
 mod making;
 mod walking;
 

@@ -2,7 +2,6 @@
 #![tactic(auto)]
 
 pub mod kind;
-mod labels;
 mod levels;
 mod multiset;
 mod plain_changes;

@@ -1,68 +1,60 @@
 // The tree of rows with a sum, for `stock`, `choose` and `door`.
-ghost use Rattle.std.specs.Prelude.{◌≡◌, ◌+◌, ◌-◌, ◌<◌, ◌≤◌, true, not, ◌||◌, length, slice_index};
+ghost use Rattle.std.specs.Prelude.{◌≡◌, ◌<◌, ◌≤◌, true, not, ◌||◌, length, sum};
 ghost use Rattle.kinds.specs.Bins.{mosts, bins_hold, filled, node_leaf};
 ghost use Rattle.kinds.specs.Ranges.{all_between};
-ghost use Rattle.kinds.specs.Lists.{ways, total};
+ghost use Rattle.kinds.specs.Lists.{ways};
+ghost use Rattle.kinds.specs.Shapes.{reflects};
 
-use super::shape::Bin;
+use super::shape::{Bin, Order};
 use super::stretch::Stretch;
 use super::tree::Node;
 
-// The stocks that are left and the sum that they are to have, and whether the rows after an odd value run backward.
+// The stocks that are left, the sum that they are to have, and the order of the rows.
 #[derive(Clone, Copy)]
 pub struct StockNode<'a> {
     bins: &'a [Bin],
     left: u8,
-    reflected: bool,
+    order: Order,
     ghost hold: { bins_hold bins.now ≡ true },
     ghost small: { left ≤ 32 },
     ghost few: { ways (mosts bins.now) left ≤ 4294967295 },
     ghost some: { 0 < ways (mosts bins.now) left },
-    ghost ones: { (not reflected || all_between 1 1 (mosts bins.now)) ≡ true },
+    ghost ones: { (not (reflects order) || all_between 1 1 (mosts bins.now)) ≡ true },
 }
 
-// How many rows begin with a smaller value.
-fn rows_before(bin: &Bin, left: u8, value: u8) -> u64
-    requires within { value ≤ left }
-    requires small { left ≤ 32 }
-    requires few { total value (λ w. slice_index bin.now.ways (left - w)) ≤ 4294967295 }
-    ensures { result ≡ total value (λ w. slice_index bin.now.ways (left - w)) }
+// How many rows the counts say together.
+fn total(counts: &[u64]) -> u32
+    requires { sum counts.now ≤ 4294967295 }
+    ensures { result ≡ sum counts.now }
 {
-    let mut before = 0;
-    for w in 0..value {
-        before += bin.ways[usize::from(left - w)];
-    }
-    before
+    counts.iter().sum::<u64>() as u32
 }
 
 impl<'a> StockNode<'a> {
     // The node above all rows of the stocks with a sum.
-    pub(crate) fn new(bins: &'a [Bin], left: u8, reflected: bool) -> StockNode<'a>
+    pub(crate) fn new(bins: &'a [Bin], left: u8, order: Order) -> StockNode<'a>
         requires hold { bins_hold bins.now ≡ true }
         requires small { left ≤ 32 }
         requires few { ways (mosts bins.now) left ≤ 4294967295 }
         requires some { 0 < ways (mosts bins.now) left }
-        requires ones { (not reflected || all_between 1 1 (mosts bins.now)) ≡ true }
-        ensures { (result.bins.now ≡ bins.now) × (result.left ≡ left) × (result.reflected ≡ reflected) }
+        requires ones { (not (reflects order) || all_between 1 1 (mosts bins.now)) ≡ true }
+        ensures { (result.bins.now ≡ bins.now) × (result.left ≡ left) × (result.order ≡ order) }
     {
-        StockNode {
-            bins,
-            left,
-            reflected,
-        }
+        StockNode { bins, left, order }
     }
 }
 
 impl Node for StockNode<'_> {
-    ghost below = { λ n. filled n.reflected (mosts n.bins.now) n.left };
+    ghost below = { λ n. filled (reflects n.order) (mosts n.bins.now) n.left };
 
     ghost depth = { λ n. length n.bins.now };
 
-    ghost leaf = { λ n none. node_leaf n.reflected n.bins.now n.left none n.some };
+    ghost leaf = { λ n none. node_leaf (reflects n.order) n.bins.now n.left none n.some };
 
     fn pick(&self, label: u32) -> u8 {
         let bin = &self.bins[0];
         let mut rest = u64::from(label);
+        // a loop, since the rest of the label runs along: in `try_fold` the value found would be the error
         for value in 0..=bin.most.min(self.left) {
             let count = bin.ways[usize::from(self.left - value)];
             if rest < count {
@@ -73,22 +65,25 @@ impl Node for StockNode<'_> {
         0
     }
 
+    #[tactic(auto, using(crate::specs::RowSums::entering))]
     fn enter(&mut self, value: u8) -> Option<Stretch> {
         let bin = &self.bins[0];
         if value > bin.most.min(self.left) {
             return None;
         }
-        let count = bin.ways[usize::from(self.left - value)];
+        let behind = usize::from(self.left - value);
+        let count = bin.ways[behind];
         if count == 0 {
             return None;
         }
-        let from = rows_before(bin, self.left, value);
+        // smaller values leave more of the sum to the stocks behind
+        let from = total(&bin.ways[behind + 1..usize::from(self.left) + 1]);
         self.bins = &self.bins[1..];
         self.left -= value;
         Some(Stretch {
-            from: from as u32,
+            from,
             count: count as u32,
-            backward: self.reflected & (value % 2 == 1),
+            backward: self.order.turns(value),
         })
     }
 }

@@ -92,6 +92,7 @@ pub(crate) fn find_row<N: Node + Drop>(mut node: N, size: u32, row: &[u8]) -> Op
         count: size,
         backward: false,
     };
+    // the rules ask for a loop over row values with an index here
     for i in 0..row.len() {
         let stretch = node.enter(row[i])?;
         whole = whole.then(stretch);

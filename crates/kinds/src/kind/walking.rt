@@ -42,17 +42,11 @@ impl Walk for Kind {
         if tray.len() < self.width {
             return Err(Refusal::ShortTray);
         }
-        self.shape
-            .write_row(self.size, self.place, &mut tray[0..self.width]);
+        self.write_row(&mut tray[0..self.width]);
         Ok(())
     }
 
     fn find(&self, row: &[u8]) -> Result<u32, Refusal> {
-        if row.len() != self.width {
-            return Err(Refusal::NoSuchRow);
-        }
-        self.shape
-            .find_row(self.size, row)
-            .ok_or(Refusal::NoSuchRow)
+        self.find_row(row).ok_or(Refusal::NoSuchRow)
     }
 }

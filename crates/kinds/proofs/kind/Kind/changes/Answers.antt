@@ -1,23 +1,8 @@
-use Rattle.std.proofs.Common.{true, leb, Ok, sym, ap, ◌∙◌, subst, arith}
-use Rattle.std.proofs.lemmas.Bool.{le-leb}
-use Rattle.kinds.specs.Laws.{ChangesLaws}
-use Rattle.kinds.specs.Lists.{changes}
+use Rattle.std.proofs.Common.{refl}
 use Rattle.kinds.specs.Changes.{changes_laws}
-use Rattle.kinds.proofs.Made.{making_ok}
-use Rattle.kinds.specs.Limits.{counted_some}
-use Rattle.kinds.proofs.MadeTables.{few_changes}
+use Rattle.kinds.specs.Laws.{ChangesLaws}
+use Rattle.kinds.proofs.Made.{rows_hold}
 use Rattle.kinds.proofs.kind.Kind.changes.Goals as goal
 
-pub new-requires : goal.new-requires
-new-requires c =
-    let count = counted_some c.in-Some.size _ c.in-Some.ensures in
-    record { holds = le-leb c.args.n 12 (few_changes c.args.n count.1); counted = count.0; wide = c.from.ensures }
-
-pub returns : goal.returns
-returns c =
-    let n = c.args.n in
-    let count = counted_some c.in-Some.size _ c.in-Some.ensures in
-    record {
-      made = making_ok (leb n 32) (changes n) n true (le-leb n 32 (omega arith)) count.1 ∙ ap Ok (sym c.new.ensures);
-      laws = subst (λ m. ChangesLaws n m.rows) (sym c.new.ensures) (changes_laws n);
-    }
+pub returns-clause-laws : goal.returns-clause-laws
+returns-clause-laws c = rows_hold (ChangesLaws c.args.n) c.new.result _ _ _ _ c.new.ensures refl (changes_laws c.args.n)

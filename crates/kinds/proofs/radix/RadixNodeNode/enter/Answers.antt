@@ -1,39 +1,9 @@
-use Rattle.std.proofs.Common.{◌*◌, ◌&&◌, [], ◌∷◌, sym, ap, subst, arith}
-use Rattle.kinds.specs.Lists.{odd}
-use Rattle.kinds.specs.Shapes.{radices, mixed}
-use Rattle.kinds.specs.Tree.{Stands}
-use Rattle.kinds.specs.Fronts.{rest_of, rest_length}
-use Rattle.kinds.specs.MixedRadix.{front, rest_holds, rest_few, before_few, levels_enter, levels_outside}
+use Rattle.std.proofs.Common.{◌*◌, ap}
+use Rattle.kinds.specs.MixedRadix.{front, levels_enter}
+use Rattle.kinds.specs.Shapes.{reflects}
 use Rattle.kinds.proofs.radix.RadixNodeNode.enter.Goals as goal
 
-pub invariant_of-self : goal.invariant_of-self
-invariant_of-self c =
+pub returns-clause-branch : goal.returns-clause-branch
+returns-clause-branch c =
     let self = c.args.self.now in
-    let levels = self.levels.now in
-    record { hold = rest_holds levels c.requires self.hold; few = rest_few levels 4294967295 c.requires self.hold self.few }
-
-pub returns-then-value-radix : goal.returns-then-value-radix
-returns-then-value-radix c =
-    let self = c.args.self.now in
-    record {
-      branch = levels_outside self.reflected self.levels.now c.args.value c.requires self.hold c.if-value-radix.true;
-      down = tt;
-    }
-
-pub overflow_mul-result : goal.overflow_mul-result
-overflow_mul-result c =
-    let self = c.args.self.now in
-    let levels = self.levels.now in
-    let few = before_few levels c.args.value 4294967295 c.requires self.hold c.if-value-radix.false self.few in
-    omega (arith, few, ap (λ v. v * (front levels).below) c.from.ensures)
-
-pub returns : goal.returns
-returns c =
-    let self = c.args.self.now in
-    let levels = self.levels.now in
-    record {
-      branch = subst (λ v. Stands (mixed self.reflected (radices levels)) (c.args.value ∷ []) (record { from = v * (front levels).below; count = (front levels).below; backward = self.reflected && odd c.args.value }) (mixed self.reflected (radices (rest_of levels))))
-          (sym c.from.ensures)
-          (levels_enter self.reflected levels c.args.value c.requires self.hold c.if-value-radix.false);
-      down = rest_length levels c.requires;
-    }
+    levels_enter (reflects self.order) self.levels.now c.args.value _ _ c.requires self.hold c.if-value-radix.false (ap (λ v. v * (front self.levels.now).below) c.from.ensures) c.turns.ensures

@@ -1,77 +1,17 @@
-use Rattle.std.proofs.Common.{◌-◌, ◌≤◌, min, ◌&&◌, [], ◌∷◌, get_or, sym, ap, ◌∙◌, subst₂, arith}
-use Rattle.walk.specs.Rows.{odd}
-use Rattle.kinds.specs.Bins.{mosts, filled}
-use Rattle.kinds.specs.Tree.{Stands}
-use Rattle.kinds.specs.RowSums.{front, node_enters, node_outside, node_empty, counts_few, count_is, rest_few, rest_ones, first_bin}
-use Rattle.kinds.specs.Fronts.{rest_of, rest_length}
+use Rattle.std.proofs.Common.{◌≤◌, min, get_or, sym, ap, ◌∙◌, arith}
+use Rattle.kinds.specs.RowSums.{front, before_read, node_enters, node_empty}
 use Rattle.kinds.proofs.sums.StockNodeNode.enter.Goals as goal
 
-pub returns-then-value-min : goal.returns-then-value-min
-returns-then-value-min c =
+pub returns-then-count-eq0-clause-branch : goal.returns-then-count-eq0-clause-branch
+returns-then-count-eq0-clause-branch c =
     let self = c.args.self.now in
-    record {
-      branch = node_outside self c.requires c.args.value (omega (arith, c.min.ensures, c.if-value-min.true));
-      down = tt;
-    }
+    let read = ap (λ i. get_or (front self.bins.now).ways i 0) c.from-behind.ensures in
+    node_empty self c.requires c.args.value (omega (arith, c.min.ensures, c.if-value-min.false)) (sym read ∙ c.if-count-eq0.true)
 
-pub returns-then-count-eq0 : goal.returns-then-count-eq0
-returns-then-count-eq0 c =
-    let self = c.args.self.now in
-    let read = ap (λ i. get_or (front self.bins.now).ways i 0) c.from.ensures in
-    record {
-      branch = node_empty self c.requires c.args.value (omega (arith, c.min.ensures, c.if-value-min.false)) (sym read ∙ c.if-count-eq0.true);
-      down = tt;
-    }
-
-pub rows_before-from-requires : goal.rows_before-from-requires
-rows_before-from-requires c =
+pub returns-clause-branch : goal.returns-clause-branch
+returns-clause-branch c =
     let self = c.args.self.now in
     let within : c.args.value ≤ min (front self.bins.now).most self.left = omega (arith, c.min.ensures, c.if-value-min.false) in
-    record {
-      within = omega arith;
-      small = self.small;
-      few = omega (arith, counts_few self c.requires c.args.value within);
-    }
-
-pub invariant_of-self : goal.invariant_of-self
-invariant_of-self c =
-    let self = c.args.self.now in
-    let bins = self.bins.now in
-    let value = c.args.value in
-    let within : value ≤ min (front bins).most self.left = omega (arith, c.min.ensures, c.if-value-min.false) in
-    let read = ap (λ i. get_or (front bins).ways i 0) c.from.ensures in
-    let count = count_is self c.requires value within in
-    record {
-      hold = (first_bin bins c.requires self.hold).rest;
-      small = omega (arith, self.small);
-      few = rest_few self c.requires value within;
-      some = omega (arith, read, count, c.if-count-eq0.false);
-      ones = rest_ones self c.requires;
-    }
-
-pub overflow_cast-result : goal.overflow_cast-result
-overflow_cast-result c =
-    let self = c.args.self.now in
-    let within : c.args.value ≤ min (front self.bins.now).most self.left = omega (arith, c.min.ensures, c.if-value-min.false) in
-    omega (arith, c.rows_before-from.ensures, counts_few self c.requires c.args.value within)
-
-pub overflow_cast-result-2 : goal.overflow_cast-result-2
-overflow_cast-result-2 c =
-    let self = c.args.self.now in
-    let within : c.args.value ≤ min (front self.bins.now).most self.left = omega (arith, c.min.ensures, c.if-value-min.false) in
-    let read = ap (λ i. get_or (front self.bins.now).ways i 0) c.from.ensures in
-    omega (arith, read, counts_few self c.requires c.args.value within)
-
-pub returns : goal.returns
-returns c =
-    let self = c.args.self.now in
-    let bins = self.bins.now in
-    let value = c.args.value in
-    let within : value ≤ min (front bins).most self.left = omega (arith, c.min.ensures, c.if-value-min.false) in
-    let read = ap (λ i. get_or (front bins).ways i 0) c.from.ensures in
-    record {
-      branch = subst₂ (λ from count. Stands (filled self.reflected (mosts bins) self.left) (value ∷ []) (record { from = from; count = count; backward = self.reflected && odd value }) (filled self.reflected (mosts (rest_of bins)) (self.left - value)))
-          (sym c.rows_before-from.ensures) (sym read)
-          (node_enters self c.requires value within);
-      down = rest_length bins c.requires;
-    }
+    let before = before_read self c.requires c.args.value _ _ (omega arith) (omega arith) in
+    let read = ap (λ i. get_or (front self.bins.now).ways i 0) c.from-behind.ensures in
+    node_enters self c.requires c.args.value _ _ _ within (c.total-from.ensures ∙ before) read c.turns.ensures
