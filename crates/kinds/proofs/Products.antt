@@ -2,11 +2,12 @@
 use Rattle.std.proofs.Common.{◌≡◌, ℕ, zero, suc, ◌+◌, ◌-◌, ◌*◌, ◌<◌, ◌≤◌, Bool, true, false, leb, List, [], ◌∷◌, Some, None, Option, sym, ap, ◌∙◌, refl, arith, mul_assoc, mul_comm, mul-one, mul-le-mul_left}
 use Rattle.std.proofs.lemmas.Bool.{cond_both, leb-true, leb-false}
 use Rattle.std.proofs.lemmas.Iterator.{YieldsList}
-use Rattle.std.proofs.lemmas.List.Elements.{All-head, All-tail}
+use Rattle.std.proofs.lemmas.List.Elements.{All-head, All-tail, All-from_get_or}
+use Rattle.std.proofs.lemmas.List.FromFn.{length-range_with_len, get_or-range_with_len}
 use Rattle.std.specs.List.{All, range_with_len}
 use Rattle.std.specs.Option.{option_and_then, SomeIff}
 use Rattle.std.specs.Iterator.{AlwaysYields}
-use Rattle.std.specs.Range.{range_inclusive_steps, range_inclusive_len, range_inclusive_left, range_inclusive_start, range_inclusive_exhausted}
+use Rattle.std.specs.Range.{range_inclusive_steps, range_inclusive_len, range_inclusive_left, range_inclusive_start, range_inclusive_end, range_inclusive_exhausted}
 use Rattle.std.specs.declared.ops.RangeInclusive.{RangeInclusive}
 use Rattle.kinds.specs.Counts.{counted}
 use Rattle.kinds.specs.Lists.{product, factorial}
@@ -45,17 +46,18 @@ multiplied_each count (x ∷ xs) few all =
     let more : (count * x) * 1 ≤ (count * x) * product xs = mul-le-mul_left (count * x) (product_positive xs rest) in
     sym (counted_over (count * (x * product xs)) (omega (arith, over, more, mul-one (count * x), join))))
 
--- a range with its end gives its numbers
 abbrev inclusive_steps : RangeInclusive ℕ → Option ℕ → RangeInclusive ℕ → Type 0
 inclusive_steps = range_inclusive_steps (λ a b. b - a) (λ a b. b ≡ a + 1)
 
 abbrev inclusive_left : RangeInclusive ℕ → ℕ
 inclusive_left = range_inclusive_left (λ a b. b - a)
 
+-- a range that has numbers left is not spent
 unspent : (a b : ℕ) (exhausted : Bool) → 0 < range_inclusive_len (λ a b. b - a) a b exhausted → exhausted ≡ false
 unspent a b false more = refl
 unspent a b true more = absurd (omega arith)
 
+-- a range with its end gives its numbers
 pub inclusive_gives : (n a : ℕ) (s : RangeInclusive ℕ) → inclusive_left s ≡ n → (0 < n → range_inclusive_start s ≡ a) → AlwaysYields inclusive_steps (λ x. x) s (range_with_len a n)
 inclusive_gives zero a s left start = λ x t step. omega (arith, left, step.1.1)
 inclusive_gives (suc n) a s left start = (
@@ -68,6 +70,15 @@ inclusive_gives (suc n) a s left start = (
   where
     going : (t : RangeInclusive ℕ) → 0 < inclusive_left t → range_inclusive_exhausted t ≡ false
     going t more = unspent _ _ (range_inclusive_exhausted t) more
+
+-- the numbers from 1 to n come from such a range as it is made
+pub rising_gives : (n : ℕ) (s : RangeInclusive ℕ) → range_inclusive_start s ≡ 1 → range_inclusive_end s ≡ n → range_inclusive_exhausted s ≡ false → AlwaysYields inclusive_steps (λ x. x) s (range_with_len 1 n)
+rising_gives n s start end fresh =
+    inclusive_gives n 1 s (ap (range_inclusive_len (λ a b. b - a) (range_inclusive_start s) (range_inclusive_end s)) fresh ∙ omega (arith, start, end)) (λ _. start)
+
+-- and are positive
+pub rising_positive : (n : ℕ) → All (λ x. 1 ≤ x) (range_with_len 1 n)
+rising_positive n = All-from_get_or (λ x. 1 ≤ x) (range_with_len 1 n) 0 (λ i lt. omega (arith, length-range_with_len 1 n, get_or-range_with_len 1 n i 0))
 
 -- one factor more at the end of rising factors
 product_push : (a n : ℕ) → product (range_with_len a (suc n)) ≡ product (range_with_len a n) * (a + n)

@@ -7,15 +7,13 @@ ghost use Rattle.walk.specs.Rows.{row_at, label_of, odd};
 ghost use Rattle.kinds.specs.Counts.{counted};
 ghost use Rattle.kinds.specs.Lists.{changes};
 
+use super::levels::count_product;
+
 // The number of orders of n values, or `None` where a walk may not have as many.
 pub(crate) fn count_changes(n: u16) -> Option<u32>
     ensures { result ≡ counted (length (changes n)) }
 {
-    let mut count: u32 = 1;
-    for last in 0..n {
-        count = count.checked_mul(u32::from(last) + 1)?;
-    }
-    Some(count)
+    count_product(1..=u32::from(n))
 }
 
 // The position of the value `last` at a place in a sweep, or the place at which it has a position: one tells the other
