@@ -1,20 +1,34 @@
 -- What `try_fold` answers, where each call gives the next total or `None`. Assumes nothing.
-use Rattle.std.proofs.Common.{◌≡◌, ℕ, ◌+◌, ◌-◌, ◌<◌, ◌≤◌, Bool, cond, leb, List, [], ◌∷◌, sum, Some, None, Option, sym, ap, ◌∙◌, subst, refl, arith}
-use Rattle.std.proofs.lemmas.Bool.{cond_both, cond-true, cond-false, leb-true, leb-false, le-leb, lt-leb}
+use Rattle.std.proofs.Common.{◌≡◌, ℕ, zero, suc, ◌+◌, ◌-◌, ◌<◌, ◌≤◌, Bool, cond, leb, List, [], ◌∷◌, map, get_or, sum, Some, None, Option, sym, ap, ◌∙◌, subst, refl, ⊎_elim, arith}
+use Rattle.std.proofs.lemmas.Bool.{cases_lt, cond_both, cond-true, cond-false, leb-true, leb-false, le-leb, lt-leb}
 use Rattle.std.proofs.lemmas.Bool.Decides.{nat_tests}
+use Rattle.std.proofs.lemmas.List.FromFn.{fill_by_all}
 use Rattle.std.proofs.lemmas.List.Sums.{sum_by-cons}
 use Rattle.std.proofs.lemmas.Iterator.{YieldsList}
 use Rattle.std.specs.declared.ops.ControlFlow.{ControlFlow}
+use Rattle.std.specs.Array.{IsFromFnResult, IsFromFnResultFrom}
 use Rattle.std.specs.ControlFlow.{continue_value}
 use Rattle.std.specs.Fn.{Called}
 use Rattle.std.specs.Iterator.{AlwaysYields, Yields, TryFoldsItems, TryFoldTurn}
-use Rattle.std.specs.List.{FoldsTo}
+use Rattle.std.specs.List.{FoldsTo, range_with_len}
 use Rattle.std.specs.Option.{is_some, option_and_then, MatchOption, SomeIff}
 use denote.Param.Members.{Mut}
 
 -- a chain proof, for a clause that says `AlwaysYields`
 pub runs_of : {S A B : Type 0} {steps : S → Option A → S → Type 0} {v : A → B} {s : S} {all : List B} → YieldsList steps v s all → AlwaysYields steps v s all
 runs_of gives = gives.runs
+
+-- what the calls of a closure that stays as it is gave at each index of an array
+module _ {F B : Type 0} (g : Mut F (ℕ × Unit {0}) B) (f : F) (h : ℕ → B) (m : ℕ) (says : (i : ℕ) (y : B) (q : F) → i < m → Called g f (i, tt) y q → (q ≡ f) × (y ≡ h i)) (ys : List B) where
+  given_from : (n i : ℕ) → i + n ≡ m → IsFromFnResultFrom g f ys i n → (k : ℕ) (d : B) → i ≤ k → k < m → get_or ys k d ≡ h k
+  given_from zero i all calls k d low high = absurd (omega arith)
+  given_from (suc n) i all (q, y, at, call, calls) k d low high =
+      let said = says i y q (omega arith) call in
+      ⊎_elim (λ later. given_from n (i + 1) (omega arith) (subst (λ p. IsFromFnResultFrom g p ys (i + 1) n) said.0 calls) k d (omega (arith, later)) high)
+      (λ here. let same : k ≡ i = omega (arith, here) in rw same (at.1 d ∙ said.1)) (cases_lt i k)
+
+  pub given_each : IsFromFnResult g f ys m → B → ys ≡ map h (range_with_len 0 m)
+  given_each calls d = fill_by_all h ys m d calls.long (λ k lt. given_from m 0 (omega arith) calls.each k d (omega arith) lt)
 
 -- the total of steps that may give none, over the elements in order
 abbrev pub stepped : {A B : Type 0} → (B → A → Option B) → B → List A → Option B

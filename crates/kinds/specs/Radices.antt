@@ -2,7 +2,7 @@
 use Rattle.std.specs.Prelude.{◌≡◌, ℕ, zero, suc, ◌+◌, ◌*◌, ◌/◌, ◌<◌, ◌≤◌, true, false, ◌&&◌, ◌⊎◌, List, [], ◌∷◌, ◌++◌, length, drop, Some, None, ◌==◌, nat_le, slice_index, slice_index_or, refl}
 use Rattle.std.proofs.Common.{sym, ap, ap₂, ◌∙◌, mul_assoc, mul-one, mul-le-mul_left, mul-le-mul_right, arith}
 use Rattle.std.proofs.Math.Nat.{mul-div_cancel_left}
-use Rattle.std.proofs.lemmas.List.{at_drop_more, at_drop_all, append_assoc}
+use Rattle.std.proofs.lemmas.List.{at_drop_more, at_drop_all, append_assoc, length-append, get_or_at}
 use Rattle.std.proofs.lemmas.Bool.{and_parts, and_from, leb-true, le-leb, eq-eqb}
 use Rattle.std.proofs.lemmas.Bool.Decides.{nat_tests}
 use Rattle.kinds.specs.Counts.{counted}
@@ -32,6 +32,13 @@ between_at low high (x ∷ xs) (suc i) all lt =
     let a = and_parts (nat_le low x) _ all in
     let b = and_parts (nat_le x high) _ a.1 in
     between_at low high xs i b.1 (omega arith)
+
+-- as is one between others
+pub between_mid : (low high : ℕ) (xs front : List ℕ) (x : ℕ) (back : List ℕ) → front ++ (x ∷ back) ≡ xs → all_between low high xs ≡ true → (low ≤ x) × (x ≤ high)
+between_mid low high xs front x back split all =
+    let here : slice_index xs (length front) ≡ x = ap (λ l. slice_index l (length front)) (sym split) ∙ get_or_at front x back 0 (length front) refl in
+    let each = between_at low high xs (length front) all (omega (arith, ap length split, length-append front (x ∷ back))) in
+    (omega (arith, each.0, here), omega (arith, each.1, here))
 
 -- and so is each of those that are left
 pub between_drop : (low high : ℕ) (xs : List ℕ) (i : ℕ) → all_between low high xs ≡ true → all_between low high (drop i xs) ≡ true
