@@ -1,16 +1,19 @@
 -- The tables of capped counts. Assumes nothing.
-use Rattle.std.specs.Prelude.{◌≡◌, ℕ, zero, suc, ◌+◌, ◌-◌, ◌<◌, ◌≤◌, min, true, List, [], ◌∷◌, ◌++◌, reverse, length, take, drop, replicate, sum, slice_index, slice_set, refl}
-use Rattle.std.proofs.Common.{sym, ap, subst, ◌∙◌, add_comm, arith}
+use Rattle.std.specs.Prelude.{◌≡◌, ℕ, zero, suc, ◌+◌, ◌-◌, ◌<◌, ◌≤◌, min, true, List, [], ◌∷◌, ◌++◌, reverse, length, take, drop, replicate, sum, slice_index, slice_set, Result, refl}
+use Rattle.std.proofs.Common.{sym, ap, subst, ◌∙◌, ⊎_elim, add_comm, arith}
 use Rattle.std.proofs.lemmas.List.FromFn.{fill_by_all, get_or-map-range_with_len}
-use Rattle.std.proofs.lemmas.List.{append_assoc, ext_get_or, drop_more, length-take, reverse-append}
+use Rattle.std.proofs.lemmas.List.{append_assoc, drop_more, length-take, reverse-append}
 use Rattle.std.proofs.lemmas.List.Elements.{All-take, All-drop, All-map, All-from_get_or}
 use Rattle.std.specs.List.{All, range_with_len}
 use Rattle.std.proofs.lemmas.List.Sums.{sum_by-cons, sum_by-le}
-use Rattle.std.proofs.lemmas.Bool.{and_from}
+use Rattle.std.proofs.lemmas.Bool.{and_from, cases_lt}
 use Rattle.walk.specs.Rows.{same_row}
 use Rattle.walk.proofs.Differences.{same_itself}
 use Rattle.kinds.specs.Bins.{capped, capped_ways, count_with, counts_with, mosts, bins_of, bins_hold}
+use Rattle.kinds.specs.Counts.{counted}
+use Rattle.kinds.specs.Limits.{counted_over, counted_converted}
 use Rattle.kinds.specs.Lists.{ways, total}
+use Rattle.std.specs.Result.{OkIff, result_ok}
 
 -- the count of a sum
 pub ways_at : (stocks : List ℕ) (t : ℕ) → t < 33 → slice_index (capped_ways stocks) t ≡ capped (ways stocks t)
@@ -26,9 +29,21 @@ ways_length stocks = refl
 pub ways_few : (stocks : List ℕ) → All (λ n. n ≤ 4294967296) (capped_ways stocks)
 ways_few stocks = All-from_get_or (λ n. n ≤ 4294967296) (capped_ways stocks) 0 (λ i lt. omega (arith, ways_length stocks, ways_at stocks i))
 
+-- a count in 32 bits is a number of rows
+pub ways_converted : {E : Type 0} (stocks : List ℕ) (t n : ℕ) (r : Result ℕ E) → n ≡ slice_index (capped_ways stocks) t → t ≤ 32 → OkIff r (n < 4294967296) n → result_ok r ≡ counted (ways stocks t)
+ways_converted stocks t n r is small told =
+    let count : n ≡ capped (ways stocks t) = is ∙ ways_at stocks t (omega arith) in
+    counted_converted r n told ∙ ap counted count ∙ ⊎_elim over within (cases_lt 4294967295 (ways stocks t))
+  where
+    over : 4294967295 < ways stocks t → counted (capped (ways stocks t)) ≡ counted (ways stocks t)
+    over h = counted_over (capped (ways stocks t)) (omega arith) ∙ sym (counted_over (ways stocks t) h)
+
+    within : ways stocks t ≤ 4294967295 → counted (capped (ways stocks t)) ≡ counted (ways stocks t)
+    within h = let same : capped (ways stocks t) ≡ ways stocks t = omega arith in ap counted same
+
 -- up to 33 counts together fit 64 bits
-pub counts_fit : (counts : List ℕ) (a k : ℕ) → All (λ n. n ≤ 4294967296) counts → k ≤ 33 → sum (take k (drop a counts)) < 18446744073709551616
-counts_fit counts a k few short =
+pub slice_fits : (counts : List ℕ) (a k : ℕ) → All (λ n. n ≤ 4294967296) counts → k ≤ 33 → sum (take k (drop a counts)) < 18446744073709551616
+slice_fits counts a k few short =
     let each = All-take (λ n. n ≤ 4294967296) k (drop a counts) (All-drop (λ n. n ≤ 4294967296) a counts few) in
     omega (arith, length-take k (drop a counts), sum_by-le (λ n. n) 4294967296 (take k (drop a counts)) each)
 

@@ -11,7 +11,7 @@ use super::levels::{count_rows, levels_of};
 use super::multiset::count_words;
 use super::ranges::{choice_fits, counts_fit, radices_fit, stocks_fit};
 use super::shape::{Bin, Level};
-use super::ways::{Ways, bins_of};
+use super::ways::{bins_of, count_ways};
 use std::alloc::{AllocError, Global};
 use walk::making::MakingFault;
 
@@ -37,8 +37,7 @@ fn sums_table(heap: Global, stocks: &[u16], t: u16) -> Result<(Vec<Bin>, u32), M
     requires sum { t ≤ 32 }
     ensures { Tabled true (ways stocks.now t) (λ x. (x.0.items ≡ bins_of stocks.now) × (x.1 ≡ ways stocks.now t)) result }
 {
-    let count = Ways::of(stocks).at(t);
-    let size = u32::try_from(count).map_err(|_| MakingFault::TooManyRows)?;
+    let size = count_ways(stocks, t).ok_or(MakingFault::TooManyRows)?;
     let bins = bins_of(heap, stocks)?;
     Ok((bins, size))
 }
@@ -59,6 +58,7 @@ pub(crate) fn stock_table(
 }
 
 // The bins of n stocks of 1, and the number of their rows with the sum t.
+#[tactic(auto, using(crate::proofs::MadeTables::ones_between, crate::proofs::MadeTables::ones_taken))]
 pub(crate) fn choice_table(heap: Global, n: u16, t: u16) -> Result<(Vec<Bin>, u32), MakingFault>
     ensures { Tabled (choice_fits n t) (ways (replicate n 1) t) (λ x. (x.0.items ≡ bins_of (replicate n 1)) × (x.1 ≡ ways (replicate n 1) t)) result }
 {
@@ -66,7 +66,7 @@ pub(crate) fn choice_table(heap: Global, n: u16, t: u16) -> Result<(Vec<Bin>, u3
         return Err(MakingFault::OutOfRange);
     }
     let ones = [1u16; 32];
-    sums_table(heap, &ones[0..usize::from(n)], t)
+    sums_table(heap, &ones[..usize::from(n)], t)
 }
 
 // The counts as bytes.

@@ -2,6 +2,8 @@
 ghost use Rattle.std.specs.Prelude.{◌≡◌, ◌≤◌, true, [], IfOk, slice_index};
 ghost use Rattle.std.specs.List.{All};
 ghost use Rattle.kinds.specs.Bins.{capped_ways, count_with, counts_with, bins_of};
+ghost use Rattle.kinds.specs.Counts.{counted};
+ghost use Rattle.kinds.specs.Lists.{ways};
 ghost use Rattle.kinds.specs.Ranges.{all_between};
 
 use super::shape::Bin;
@@ -13,7 +15,7 @@ const CAP: u64 = 4294967296;
 
 // How many rows there are with each sum.
 #[derive(Drop)]
-pub(crate) struct Ways {
+struct Ways {
     counts: [u64; 33],
     ghost few: { All (λ n. n ≤ 4294967296) counts },
 }
@@ -47,7 +49,7 @@ impl Ways {
     }
 
     // The counts of the stocks.
-    pub(crate) fn of(stocks: &[u16]) -> Ways
+    fn of(stocks: &[u16]) -> Ways
         ensures { result.counts ≡ capped_ways stocks.now }
     {
         stocks
@@ -55,14 +57,15 @@ impl Ways {
             .rev()
             .fold(Ways::none(), |behind, most| behind.with(*most))
     }
+}
 
-    // How many rows there are with the sum.
-    pub(crate) fn at(&self, sum: u16) -> u64
-        requires { sum ≤ 32 }
-        ensures { result ≡ slice_index self.now.counts sum }
-    {
-        self.counts[usize::from(sum)]
-    }
+// The number of rows of the stocks with a sum, or `None` where a walk may not have as many.
+#[tactic(auto, using(crate::specs::WayCounts::ways_converted))]
+pub(crate) fn count_ways(stocks: &[u16], sum: u16) -> Option<u32>
+    requires { sum ≤ 32 }
+    ensures { result ≡ counted (ways stocks.now sum) }
+{
+    u32::try_from(Ways::of(stocks).counts[usize::from(sum)]).ok()
 }
 
 // Each stock with the counts of the stocks behind it.

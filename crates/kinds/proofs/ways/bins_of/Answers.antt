@@ -17,6 +17,13 @@ loop-most-preserved c =
     let most = c.in-Some.most.now in
     let here = next_stock c.args.stocks.now _ _ most done split c.in-Some.ensures.steps in
     let pushed = chosen _ _ _ _ c.push.ensures.items (ap is_ok c.in_ok-push.was) in
-    let table = c.loop-most.behind.counts in
-    (tt, tt, (most ∷ done, here, c.with-behind.ensures ∙ ap (counts_with most) counts ∙ ways_more most done,
-      pushed ∙ ap (λ bs. bs ++ (record { most = most; ways = table } ∷ [])) bins ∙ bins_more most done table counts))
+    let table = c.loop-most.behind.counts in (
+      tt,
+      tt,
+      (
+        most ∷ done,
+        here,
+        c.with-behind.ensures ∙ ap (counts_with most) counts ∙ ways_more most done,
+        pushed ∙ ap (λ bs. bs ++ (record { most = most; ways = table } ∷ [])) bins ∙ bins_more most done table counts,
+      ),
+    )

@@ -1,12 +1,11 @@
-use Rattle.std.proofs.Common.{◌≡◌, suc, ◌+◌, ◌-◌, ◌<◌, min, length, take, drop, sum, get_or, ap, ◌∙◌, ap₂, rules, arith}
-use Rattle.kinds.specs.Lists.{total}
-use Rattle.kinds.specs.WayCounts.{counts_fit, total_slice}
+use Rattle.std.proofs.Common.{◌≡◌, suc, ◌+◌, ◌-◌, ◌<◌, min, length, take, drop, sum, ap, ◌∙◌, ap₂, rules, arith}
+use Rattle.kinds.specs.WayCounts.{slice_fits, total_slice}
 use Rattle.kinds.proofs.ways.Ways.sum_with.Goals as goal
 
 pub sum-requires-clause-fits : goal.sum-requires-clause-fits
 sum-requires-clause-fits c =
     let first = c.saturating_sub-first.result in
-    let fits : sum c.iter.result.rest.now < 18446744073709551616 = rw c.iter.ensures.rest (counts_fit c.args.self.now.counts first _ c.args.self.now.few (omega arith)) in
+    let fits : sum c.iter.result.rest.now < 18446744073709551616 = rw c.iter.ensures.rest (slice_fits c.args.self.now.counts first _ c.args.self.now.few (omega arith)) in
     search rules
 
 pub returns : goal.returns

@@ -1,4 +1,4 @@
-use Rattle.std.proofs.Common.{◌≡◌, ◌≤◌, sym, subst, rules}
+use Rattle.std.proofs.Common.{◌≤◌, sym, subst, rules}
 use Rattle.std.specs.List.{All}
 use Rattle.kinds.specs.Bins.{count_with, counts_with}
 use Rattle.kinds.specs.WayCounts.{with_few}
