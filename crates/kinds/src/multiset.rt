@@ -108,12 +108,10 @@ fn mix(rows: u32, some: u16, others: u16) -> Option<u32>
     requires { some + others ≤ 32 }
     ensures { result ≡ counted (rows * mixings some others) }
 {
-    let mut mixed = rows;
-    for done in 0..others {
+    (0..others).try_fold(rows, |mixed, done| {
         let more = u64::from(mixed) * u64::from(some + done + 1) / u64::from(done + 1);
-        mixed = u32::try_from(more).ok()?;
-    }
-    Some(mixed)
+        u32::try_from(more).ok()
+    })
 }
 
 // The number of words of the counts, or `None` where a walk may not have as many.
