@@ -37,7 +37,7 @@ impl WordsNode {
         ensures { (result.left ≡ sum counts.now) × (take result.kinds result.counts ≡ counts.now) }
     {
         let mut all = [0; 32];
-        all[0..counts.len()].copy_from_slice(counts);
+        all[..counts.len()].copy_from_slice(counts);
         WordsNode {
             counts: all,
             kinds: counts.len(),
@@ -55,6 +55,7 @@ impl WordsNode {
     }
 
     // The number of words that fall to a part of the values that are left.
+    #[tactic(auto, using(crate::proofs::WordTree::share_few))]
     fn share(&self, part: u8) -> u32
         requires some { 0 < self.now.left }
         requires part { part ≤ self.now.left }
@@ -74,7 +75,7 @@ impl Node for WordsNode {
     // The values have their shares of the words in order, so the label falls among the counts as it does among the words.
     fn pick(&self, label: u32) -> u8 {
         let mut rest = u64::from(label) * u64::from(self.left) / u64::from(self.rows);
-        for (v, count) in self.counts[0..self.kinds].iter().enumerate() {
+        for (v, count) in self.counts[..self.kinds].iter().enumerate() {
             let count = u64::from(*count);
             if rest < count {
                 return v as u8;
