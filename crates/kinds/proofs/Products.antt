@@ -1,5 +1,5 @@
 -- Products counted factor by factor, up to what a walk may have. Assumes nothing.
-use Rattle.std.proofs.Common.{◌≡◌, ℕ, zero, suc, ◌+◌, ◌-◌, ◌*◌, ◌<◌, ◌≤◌, Bool, true, false, leb, List, [], ◌∷◌, Some, None, Option, sym, ap, ◌∙◌, refl, arith, mul_assoc, mul_comm, mul-one, mul-le-mul_left}
+use Rattle.std.proofs.Common.{◌≡◌, ℕ, zero, suc, ◌+◌, ◌-◌, ◌*◌, ◌<◌, ◌≤◌, Bool, true, false, leb, length, List, [], ◌∷◌, Some, None, Option, sym, ap, ◌∙◌, refl, arith, mul_assoc, mul_comm, mul-one, mul-le-mul_left}
 use Rattle.std.proofs.lemmas.Bool.{cond_both, leb-true, leb-false}
 use Rattle.std.proofs.lemmas.List.Elements.{All-head, All-tail, All-from_get_or}
 use Rattle.std.proofs.lemmas.List.FromFn.{length-range_with_len, get_or-range_with_len}
@@ -9,7 +9,8 @@ use Rattle.std.specs.Iterator.{AlwaysYields}
 use Rattle.std.specs.Range.{range_inclusive_steps, range_inclusive_len, range_inclusive_left, range_inclusive_start, range_inclusive_end, range_inclusive_exhausted}
 use Rattle.std.specs.declared.ops.RangeInclusive.{RangeInclusive}
 use Rattle.kinds.specs.Counts.{counted}
-use Rattle.kinds.specs.Lists.{product, factorial}
+use Rattle.kinds.specs.Lists.{product, factorial, changes}
+use Rattle.kinds.specs.Changes.{changes_length}
 use Rattle.kinds.specs.Limits.{counted_within, counted_over}
 use Rattle.kinds.proofs.Folds.{stepped}
 
@@ -92,3 +93,9 @@ product_rising zero = refl
 product_rising (suc n) =
     let next : 1 + n ≡ suc n = omega arith in
     product_push 1 n ∙ ap (λ m. product (range_with_len 1 n) * m) next ∙ ap (λ p. p * suc n) (product_rising n) ∙ mul_comm (factorial n) (suc n)
+
+-- what is counted of the factors of such a range is the number of orders
+pub rising_counted : (n : ℕ) (s : RangeInclusive ℕ) (r : Option ℕ) → ((list : List ℕ) → AlwaysYields inclusive_steps (λ x. x) s list → All (λ x. 1 ≤ x) list → r ≡ counted (product list))
+    → range_inclusive_start s ≡ 1 → range_inclusive_end s ≡ n → range_inclusive_exhausted s ≡ false → r ≡ counted (length (changes n))
+rising_counted n s r counts start end fresh =
+    counts (range_with_len 1 n) (rising_gives n s start end fresh) (rising_positive n) ∙ ap counted (product_rising n ∙ sym (changes_length n))

@@ -16,7 +16,8 @@ pub(crate) fn total(counts: &[u8]) -> u8
 }
 
 // How often each value is still to come, for the values below `kinds`, how many values that is together, and the number
-// of words that are left to write with them.
+// of words that are left to write with them. `read` and `find` ask for no memory, so the counts stand in an array, with
+// how many they are beside it.
 #[derive(Clone, Copy)]
 pub struct WordsNode {
     counts: [u8; 32],
@@ -74,6 +75,7 @@ impl Node for WordsNode {
 
     // The values have their shares of the words in order, so the label falls among the counts as it does among the words.
     fn pick(&self, label: u32) -> u8 {
+        // A `for`: `rest` shrinks from value to value, and no method of an iterator finds by that.
         let mut rest = u64::from(label) * u64::from(self.left) / u64::from(self.rows);
         for (v, count) in self.counts[..self.kinds].iter().enumerate() {
             let count = u64::from(*count);
@@ -120,6 +122,7 @@ pub(crate) fn count_words(counts: &[u16]) -> Option<u32>
     requires { sum counts.now ≤ 32 }
     ensures { result ≡ counted (length (words counts.now)) }
 {
+    // A `for`: a `try_fold` would carry both numbers as a pair, and drop one at the end.
     let mut rows = 1;
     let mut some = 0;
     for count in counts {
