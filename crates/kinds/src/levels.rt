@@ -28,6 +28,7 @@ pub(crate) fn count_rows(radices: &[u16]) -> Option<u32>
 }
 
 // Each radix with the number of rows under the later ones; all have `size`.
+#[tactic(auto, using(crate::specs::Radices::between_at, crate::specs::Radices::rest_more, crate::specs::Radices::levels_more))]
 pub(crate) fn levels_of(heap: Global, radices: &[u16], size: u32) -> Result<Vec<Level>, AllocError>
     requires fit { all_between 1 255 radices.now ≡ true }
     requires counted { size ≡ product radices.now }

@@ -118,6 +118,7 @@ fn mix(rows: u32, some: u16, others: u16) -> Option<u32>
 }
 
 // The number of words of the counts, or `None` where a walk may not have as many.
+#[tactic(auto, using(crate::proofs::WordCounts::sum_within, crate::specs::Limits::counted_within))]
 pub(crate) fn count_words(counts: &[u16]) -> Option<u32>
     requires { sum counts.now ≤ 32 }
     ensures { result ≡ counted (length (words counts.now)) }

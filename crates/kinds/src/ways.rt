@@ -22,6 +22,7 @@ struct Ways {
 
 impl Ways {
     // The counts of no stocks: one row, with the sum 0.
+    #[tactic(auto, using(crate::specs::WayCounts::ways_none))]
     fn none() -> Ways
         ensures { result.counts ≡ capped_ways [] }
     {

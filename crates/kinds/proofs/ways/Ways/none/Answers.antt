@@ -5,6 +5,3 @@ use Rattle.kinds.proofs.ways.Ways.none.Goals as goal
 
 pub invariant_of-result : goal.invariant_of-result
 invariant_of-result c = record { few = subst (All (λ n. n ≤ 4294967296)) (sym ways_none) (ways_few []) }
-
-pub returns : goal.returns
-returns c = ways_none
