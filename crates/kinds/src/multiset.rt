@@ -87,6 +87,7 @@ impl Node for WordsNode {
         0
     }
 
+    #[tactic(auto, using(crate::proofs::WordTree::before_within, crate::proofs::WordTree::count_within))]
     fn enter(&mut self, value: u8) -> Option<Stretch> {
         let v = usize::from(value);
         if v >= self.kinds || self.counts[v] == 0 {

@@ -1,11 +1,9 @@
-use Rattle.std.proofs.Common.{◌+◌, ◌*◌, length, get_or, sym, ap, ◌∙◌, ap₂, arith}
-use Rattle.std.proofs.lemmas.List.{take_all}
+use Rattle.std.proofs.Common.{◌+◌, ◌*◌, length, get_or, sym, ◌∙◌, ap₂, arith}
 use Rattle.std.proofs.lemmas.List.Sums.{sum_by_more}
-use Rattle.kinds.specs.Counts.{counted}
 use Rattle.kinds.specs.Lists.{words}
 use Rattle.kinds.specs.WordNodes.{mixings}
-use Rattle.kinds.specs.Limits.{counted_within, counted_over, counted_some, counted_none}
-use Rattle.kinds.proofs.WordCounts.{sum_within, words_more, words_front}
+use Rattle.kinds.specs.Limits.{counted_over, counted_some, counted_none}
+use Rattle.kinds.proofs.WordCounts.{words_more, words_front}
 use Rattle.kinds.proofs.multiset.count_words.Goals as goal
 
 pub returns-in_err-rows : goal.returns-in_err-rows
