@@ -1,4 +1,4 @@
--- What `try_fold` answers, where each call gives the next total or `None`. Assumes nothing.
+-- What `try_fold` answers and `array::from_fn` makes, where a call leaves the closure as it was. Assumes nothing.
 use Rattle.std.proofs.Common.{◌≡◌, ℕ, zero, suc, ◌+◌, ◌-◌, ◌<◌, ◌≤◌, cond, leb, List, [], ◌∷◌, map, get_or, sum, Some, None, Option, sym, ap, ◌∙◌, subst, ⊎_elim, arith}
 use Rattle.std.proofs.lemmas.Bool.{cases_lt, cond_both, cond-true, cond-false, leb-true, leb-false, le-leb, lt-leb}
 use Rattle.std.proofs.lemmas.Bool.Decides.{nat_tests}
@@ -18,7 +18,7 @@ use denote.Param.Members.{Mut}
 pub runs_of : {S A B : Type 0} {steps : S → Option A → S → Type 0} {v : A → B} {s : S} {all : List B} → YieldsList steps v s all → AlwaysYields steps v s all
 runs_of gives = gives.runs
 
--- what the calls of a closure that stays as it is gave at each index of an array
+-- what `array::from_fn` makes: h of each index
 module _ {F B : Type 0} (g : Mut F (ℕ × Unit {0}) B) (f : F) (h : ℕ → B) (m : ℕ) (says : (i : ℕ) (y : B) (q : F) → i < m → Called g f (i, tt) y q → (q ≡ f) × (y ≡ h i)) (ys : List B) where
   given_from : (n i : ℕ) → i + n ≡ m → IsFromFnResultFrom g f ys i n → (k : ℕ) (d : B) → i ≤ k → k < m → get_or ys k d ≡ h k
   given_from zero i all calls k d low high = absurd (omega arith)

@@ -46,6 +46,7 @@ multiplied_each count (x ∷ xs) few all =
     let more : (count * x) * 1 ≤ (count * x) * product xs = mul-le-mul_left (count * x) (product_positive xs rest) in
     sym (counted_over (count * (x * product xs)) (omega (arith, over, more, mul-one (count * x), join))))
 
+-- a step of a range with its end, and how many numbers it has left
 abbrev inclusive_steps : RangeInclusive ℕ → Option ℕ → RangeInclusive ℕ → Type 0
 inclusive_steps = range_inclusive_steps (λ a b. b - a) (λ a b. b ≡ a + 1)
 
