@@ -10,7 +10,7 @@ ghost use Rattle.kinds.specs.Shapes.{levels_of};
 use super::shape::Level;
 use std::alloc::{AllocError, Global};
 
-// The product of the factors, or `None` where a walk may not have as many rows.
+// The product of factors of 1 and more, or `None` where a walk may not have as many rows.
 pub(crate) fn count_product<I: Iterator<Item = u32>>(mut factors: I) -> Option<u32>
     requires can { I.can_next factors }
     requires finite { IsFinite (I.remaining factors) }
