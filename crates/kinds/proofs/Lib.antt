@@ -1,7 +1,9 @@
+pub mod Folds
 pub mod Made
 pub mod MadeLaws
 pub mod MadeTables
 pub mod PlainChanges
+pub mod Products
 pub mod Stretches
 pub mod WordCounts
 pub mod WordTree

@@ -19,7 +19,7 @@ use Rattle.kinds.specs.Changes.{changes_length}
 use Rattle.kinds.specs.RowSums.{Ones, filled_length}
 use Rattle.kinds.proofs.PlainChanges.{factorial_rises}
 use Rattle.kinds.specs.Radices.{radices_of_levels, length_levels, levels_of_hold}
-use Rattle.kinds.specs.WayCounts.{ways_at, mosts_of_bins, length_bins, bins_of_hold}
+use Rattle.kinds.specs.WayCounts.{mosts_of_bins, length_bins, bins_of_hold}
 
 -- equal numbers within a range are within it
 pub between_replicate : (low high x n : ℕ) → low ≤ x → x ≤ high → all_between low high (replicate n x) ≡ true
@@ -27,13 +27,13 @@ between_replicate low high x zero above below = refl
 between_replicate low high x (suc n) above below =
     and_from (leb low x) _ (le-leb low x above) (and_from (leb x high) _ (le-leb x high below) (between_replicate low high x n above below))
 
--- the first n of 32 ones, as `&ones[0..n]` has them
-pub ones_taken : (n i : ℕ) → i ≡ n → n ≤ 32 → take {A = ℕ} (i - 0) (replicate 32 1) ≡ replicate n 1
-ones_taken n i is small = ap (λ k. take {A = ℕ} k (replicate 32 1)) (sub-zero i ∙ is) ∙ take-replicate n 32 1 small
+-- the first n of 32 ones
+pub ones_taken : (n : ℕ) → n ≤ 32 → take {A = ℕ} n (replicate 32 1) ≡ replicate n 1
+ones_taken n small = take-replicate n 32 1 small
 
--- the count that is read for a sum
-pub count_read : (stocks counts : List ℕ) (t i : ℕ) → counts ≡ capped_ways stocks → i ≡ t → t ≤ 32 → get_or counts i 0 ≡ capped (ways stocks t)
-count_read stocks counts t i is at small = ap₂ (λ c k. get_or c k 0) is at ∙ ways_at stocks t (omega arith)
+-- and each is a stock
+pub ones_between : (n : ℕ) → n ≤ 32 → all_between 0 32 (take {A = ℕ} n (replicate 32 1)) ≡ true
+ones_between n small = rw (ones_taken n small) (between_replicate 0 32 1 n (omega arith) (omega arith))
 
 -- the levels and the count that a table of radices has
 abbrev pub RadixRows : List ℕ → Vec Level Global × ℕ → Type 0
@@ -42,14 +42,6 @@ RadixRows list x = (vec_items x.0 ≡ levels_of list) × (x.1 ≡ product list)
 -- the bins and the count that a table of stocks has
 abbrev pub SumRows : List ℕ → ℕ → Vec Bin Global × ℕ → Type 0
 SumRows stocks t x = (vec_items x.0 ≡ bins_of stocks) × (x.1 ≡ ways stocks t)
-
--- want of memory, once the rows are counted
-pub tabled_no_memory : {X : Type 0} (fit : Bool) (count : ℕ) (P : X → Type 0) (r : Result X MakingFault) (y : MakingFault) → r ≡ Err y → y ≡ NoMemory → fit ≡ true → count ≤ 4294967295 → Tabled fit count P r
-tabled_no_memory fit count P r y is same fits few = subst (Tabled fit count P) (sym (is ∙ ap Err same)) (fits, few)
-
--- a table for numbers that fit
-pub tabled_fit : {X : Type 0} (fit : Bool) (count : ℕ) (P : X → Type 0) (r : Result X MakingFault) → fit ≡ true → Tabled true count P r → Tabled fit count P r
-tabled_fit fit count P r fits told = subst (λ f. Tabled f count P r) (sym fits) told
 
 -- the levels of a table of radices
 pub record RadixTable (n : ℕ) (list : List ℕ) (levels : List Level) : Type 0 where

@@ -8,11 +8,9 @@ use Rattle.std.proofs.lemmas.List.{append-nil, append_assoc, take_at, drop_at, t
 use Rattle.std.proofs.lemmas.Bool.{cases_lt}
 use Rattle.walk.specs.Rows.{Row, row_at, label_of}
 use Rattle.walk.proofs.Differences.{label_of_listed, label_of_stands, label_of_missing}
-use Rattle.kinds.specs.Counts.{counted}
 use Rattle.kinds.specs.Laws.{Permutation}
 use Rattle.kinds.specs.Lists.{changes, factorial}
 use Rattle.kinds.specs.Changes.{position, position_below, position_back, permutation_less, permutation_last, changes_permutations, changes_length, changes_at, changes_apart}
-use Rattle.kinds.specs.Limits.{counted_within, counted_over}
 use Rattle.kinds.specs.Occurrences.{found}
 
 -- a list of which all from a on was written anew
@@ -51,21 +49,6 @@ factorial_rises m (suc n) h =
   where
     same : suc n ≤ m → m ≡ suc n
     same l = omega arith
-
--- one value more in the count
-pub orders_more : (k count : ℕ) → count ≡ factorial k → count * (k + 1) ≡ factorial (k + 1)
-orders_more k count e = rw add-one (mul_comm count (suc k) ∙ ap (λ m. suc k * m) e)
-
--- a count that is too large stays so
-pub orders_over : (n k count : ℕ) → k < n → count ≡ factorial k → (count * (k + 1) < 4294967296 → ⊥) → counted (length (changes n)) ≡ None
-orders_over n k count l e over =
-    counted_over (length (changes n)) (omega (arith, over, orders_more k count e, changes_length n, factorial_rises (k + 1) n (omega arith)))
-
--- the whole count
-pub orders_whole : (n k count : ℕ) → k ≡ n → count ≡ factorial k → count < 4294967296 → Some count ≡ counted (length (changes n))
-orders_whole n k count all e low =
-    let is : count ≡ length (changes n) = e ∙ ap factorial all ∙ sym (changes_length n) in
-    ap Some is ∙ sym (counted_within (length (changes n)) (omega arith))
 
 -- a row that is no order of the values below its width has no label
 pub label_of_other : (n : ℕ) (r : Row) → length r ≡ n → (Permutation n r → ⊥) → label_of (changes (length r)) r ≡ None

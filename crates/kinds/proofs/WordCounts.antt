@@ -1,10 +1,15 @@
 -- How many words there are as counts are added. Assumes nothing.
-use Rattle.std.proofs.Common.{◌≡◌, ℕ, zero, suc, ◌+◌, ◌*◌, ◌/◌, ◌<◌, ◌≤◌, List, [], ◌∷◌, ◌++◌, length, get_or, take, drop, sum, sym, refl, ap, ◌∙◌, subst, ap₂, ⊎_elim, mul_assoc, mul_comm, mul-le-mul_left, zero-mul, mul-one, le_of_mul-le-mul_right, mul_left_comm, add-one, arith}
+use Rattle.std.proofs.Common.{◌≡◌, ℕ, zero, suc, ◌+◌, ◌*◌, ◌/◌, ◌<◌, ◌≤◌, List, [], ◌∷◌, ◌++◌, leb, length, get_or, take, drop, sum, Some, None, Option, sym, refl, ap, ◌∙◌, subst, ap₂, ⊎_elim, mul_assoc, mul_comm, mul-le-mul_left, zero-mul, mul-one, le_of_mul-le-mul_right, mul_left_comm, add-one, arith}
 use native.Mathlib.Nat.{mul-mul-mul_comm, eq_of_mul-eq-mul_right}
 use Rattle.std.proofs.lemmas.Nat.{mul-lt}
 use Rattle.std.proofs.lemmas.List.{append-nil, append_assoc, take-append-drop, take_more}
 use Rattle.std.proofs.lemmas.List.Sums.{sum_by_push, sum_by_more, sum_by-take-le}
-use Rattle.std.proofs.lemmas.Bool.{cases_eq, cases_lt}
+use Rattle.std.proofs.lemmas.Bool.{cases_eq, cases_lt, cond_both, leb-true, leb-false}
+use Rattle.std.specs.List.{range_with_len}
+use Rattle.std.specs.Option.{option_and_then}
+use Rattle.kinds.specs.Counts.{counted}
+use Rattle.kinds.specs.Limits.{counted_within, counted_over}
+use Rattle.kinds.proofs.Folds.{stepped}
 use Rattle.kinds.specs.Lists.{words, factorial}
 use Rattle.kinds.specs.WordNodes.{mixings}
 use Rattle.kinds.specs.Multinomial.{factorials, factorial_some, factorials_some, words_count, quotient}
@@ -74,6 +79,25 @@ module _ (s : ℕ) where
 
       step : mixings s d ≤ mixings s (suc d)
       step = le_of_mul-le-mul_right {k = suc d} (omega (arith, mixings_more d, mul-le-mul_left {m = suc d} {n = s + d + 1} (mixings s d) (omega arith))) (omega arith)
+
+-- one value more mixed into rows, if a walk may have as many
+abbrev pub mixed : ℕ → ℕ → ℕ → Option ℕ
+mixed some rows done = counted (rows * (some + done + 1) / (done + 1))
+
+-- values can be mixed in one after another if a walk may have the rows
+pub mixed_each : (some rows k done now : ℕ) → now ≡ rows * mixings some done → now ≤ 4294967295 → stepped (mixed some) now (range_with_len done k) ≡ counted (rows * mixings some (done + k))
+mixed_each some rows zero done now is few =
+    let all : done + 0 ≡ done = omega arith in
+    sym (counted_within now few) ∙ ap counted (is ∙ ap (λ n. rows * mixings some n) (sym all))
+mixed_each some rows (suc k) done now is few =
+    let next : now * (some + done + 1) / (done + 1) ≡ rows * mixings some (done + 1) = mixings_next some rows done now (some + done + 1) (done + 1) is refl refl in
+    let last : done + 1 + k ≡ done + suc k = omega arith in
+    cond_both (leb (now * (some + done + 1) / (done + 1)) 4294967295) (Some (now * (some + done + 1) / (done + 1))) None
+    (λ o. option_and_then (λ n. stepped (mixed some) n (range_with_len (done + 1) k)) o ≡ counted (rows * mixings some (done + suc k)))
+    (λ e. mixed_each some rows k (done + 1) _ next (leb-true _ 4294967295 e) ∙ ap (λ n. counted (rows * mixings some n)) last)
+    (λ e.
+    let more = mul-le-mul_left rows (mixings_grow some (done + 1) (done + suc k) (omega arith)) in
+    sym (counted_over (rows * mixings some (done + suc k)) (omega (arith, leb-false _ 4294967295 e, next, more))))
 
 -- one count more: its values are mixed into the words of the others
 pub words_push : (xs : List ℕ) (c : ℕ) → length (words (xs ++ (c ∷ []))) ≡ length (words xs) * mixings (sum xs) c

@@ -1,8 +1,7 @@
 -- Where the words of a node's branches stand. Assumes nothing.
-use Rattle.std.proofs.Common.{◌≡◌, ℕ, zero, suc, ◌+◌, ◌-◌, ◌*◌, ◌/◌, ◌<◌, ◌≤◌, false, ◌⊎◌, List, [], ◌∷◌, length, get_or, take, set, sum, sym, ap, ◌∙◌, ⊎_elim, mul-le-mul_right, mul_comm, div-lt_iff_lt-mul, mul-lt-mul_of_pos_right, le-div_iff_mul-le, add-one, arith}
+use Rattle.std.proofs.Common.{◌≡◌, ℕ, zero, suc, ◌+◌, ◌-◌, ◌*◌, ◌/◌, ◌<◌, ◌≤◌, false, ◌⊎◌, List, [], ◌∷◌, length, get_or, take, set, sum, sym, ap, ◌∙◌, ⊎_elim, mul-le-mul_right, mul_comm, div-lt_iff_lt-mul, le-div_iff_mul-le, add-one, arith}
 use native.Mathlib.Nat.{le_of_mul-le-mul_left, lt_of_mul-lt-mul_left, div-le_of_le-mul}
 use lib.Seq.{take-set-lt}
-use Rattle.std.proofs.lemmas.Nat.{div_below}
 use Rattle.std.proofs.lemmas.List.{get_or-take, get_or_past, take-take, length-take}
 use Rattle.std.proofs.lemmas.List.Sums.{sum_by_more, sum_by-take-le, get_or-le-sum_by}
 use Rattle.std.proofs.lemmas.Bool.{cases_lt}
@@ -18,10 +17,6 @@ use Rattle.kinds.specs.Words.{words_branch, counted_below, one_less_sum}
 -- a part of the words is no more than all
 pub share_few : (part left rows : ℕ) → part ≤ left → part * rows / left ≤ rows
 share_few part left rows h = div-le_of_le-mul left (mul-le-mul_right rows h)
-
--- a label falls among all counts
-pub place_within : (label left rows : ℕ) → label < rows → 0 < left → label * left / rows < left
-place_within label left rows h some = div_below (label * left) rows left (omega arith) (omega (arith, mul-lt-mul_of_pos_right {m = label} {n = rows} {k = left} h some, mul_comm rows left))
 
 module _ (counts : List ℕ) (v : ℕ) where
   -- it falls among the counts as it does among the words

@@ -1,11 +1,11 @@
 -- Stocks with the counts of the rows behind them. Assumes nothing.
-use Rattle.std.specs.Prelude.{◌≡◌, ℕ, zero, suc, ◌<◌, min, Bool, true, false, cond, ◌&&◌, List, [], ◌∷◌, map, length, ◌==◌, refl}
+use Rattle.std.specs.Prelude.{◌≡◌, ℕ, zero, suc, ◌-◌, ◌<◌, min, Bool, true, false, cond, ◌&&◌, List, [], ◌∷◌, map, length, ◌==◌, slice_index, refl}
 use Rattle.std.proofs.Common.{◌∙◌, arith}
 use Rattle.std.proofs.lemmas.Bool.{ne_eqb, cond-false}
 use Rattle.std.proofs.lemmas.List.{length-map}
 use Rattle.std.specs.List.{range_with_len}
 use Rattle.walk.specs.Rows.{Row, same_row}
-use Rattle.kinds.specs.Lists.{stock, door, ways}
+use Rattle.kinds.specs.Lists.{stock, door, ways, total}
 use Rattle.kinds.specs.declared.shape.Bin.{Bin}
 
 -- the stocks of the bins
@@ -19,6 +19,14 @@ capped n = min n 4294967296
 -- the capped counts of the rows of the stocks with the sums 0 to 32
 unfoldable pub capped_ways : List ℕ → List ℕ
 capped_ways stocks = map (λ (t : ℕ). capped (ways stocks t)) (range_with_len 0 33)
+
+-- the capped count of the rows with a sum of a stock and those behind it, from the counts of those behind it
+abbrev pub count_with : ℕ → List ℕ → ℕ → ℕ
+count_with most behind t = capped (total (suc (min most t)) (λ v. slice_index behind (t - v)))
+
+-- such counts for the sums 0 to 32
+unfoldable pub counts_with : ℕ → List ℕ → List ℕ
+counts_with most behind = map (count_with most behind) (range_with_len 0 33)
 
 -- each stock with the counts of the stocks after it
 abbrev pub bins_of : List ℕ → List Bin

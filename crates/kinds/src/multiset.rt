@@ -16,7 +16,8 @@ pub(crate) fn total(counts: &[u8]) -> u8
 }
 
 // How often each value is still to come, for the values below `kinds`, how many values that is together, and the number
-// of words that are left to write with them.
+// of words that are left to write with them. `read` and `find` ask for no memory, so the counts stand in an array, with
+// how many they are beside it.
 #[derive(Clone, Copy)]
 pub struct WordsNode {
     counts: [u8; 32],
@@ -37,7 +38,7 @@ impl WordsNode {
         ensures { (result.left ≡ sum counts.now) × (take result.kinds result.counts ≡ counts.now) }
     {
         let mut all = [0; 32];
-        all[0..counts.len()].copy_from_slice(counts);
+        all[..counts.len()].copy_from_slice(counts);
         WordsNode {
             counts: all,
             kinds: counts.len(),
@@ -55,6 +56,7 @@ impl WordsNode {
     }
 
     // The number of words that fall to a part of the values that are left.
+    #[tactic(auto, using(crate::proofs::WordTree::share_few))]
     fn share(&self, part: u8) -> u32
         requires some { 0 < self.now.left }
         requires part { part ≤ self.now.left }
@@ -73,8 +75,9 @@ impl Node for WordsNode {
 
     // The values have their shares of the words in order, so the label falls among the counts as it does among the words.
     fn pick(&self, label: u32) -> u8 {
+        // A `for`: `rest` shrinks from value to value, and no method of an iterator finds by that.
         let mut rest = u64::from(label) * u64::from(self.left) / u64::from(self.rows);
-        for (v, count) in self.counts[0..self.kinds].iter().enumerate() {
+        for (v, count) in self.counts[..self.kinds].iter().enumerate() {
             let count = u64::from(*count);
             if rest < count {
                 return v as u8;
@@ -84,6 +87,7 @@ impl Node for WordsNode {
         0
     }
 
+    #[tactic(auto, using(crate::proofs::WordTree::before_within, crate::proofs::WordTree::count_within))]
     fn enter(&mut self, value: u8) -> Option<Stretch> {
         let v = usize::from(value);
         if v >= self.kinds || self.counts[v] == 0 {
@@ -108,19 +112,19 @@ fn mix(rows: u32, some: u16, others: u16) -> Option<u32>
     requires { some + others ≤ 32 }
     ensures { result ≡ counted (rows * mixings some others) }
 {
-    let mut mixed = rows;
-    for done in 0..others {
+    (0..others).try_fold(rows, |mixed, done| {
         let more = u64::from(mixed) * u64::from(some + done + 1) / u64::from(done + 1);
-        mixed = u32::try_from(more).ok()?;
-    }
-    Some(mixed)
+        u32::try_from(more).ok()
+    })
 }
 
 // The number of words of the counts, or `None` where a walk may not have as many.
+#[tactic(auto, using(crate::proofs::WordCounts::sum_within, crate::specs::Limits::counted_within))]
 pub(crate) fn count_words(counts: &[u16]) -> Option<u32>
     requires { sum counts.now ≤ 32 }
     ensures { result ≡ counted (length (words counts.now)) }
 {
+    // A `for`: a `try_fold` would carry both numbers as a pair, and drop one at the end.
     let mut rows = 1;
     let mut some = 0;
     for count in counts {

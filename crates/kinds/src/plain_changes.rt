@@ -7,15 +7,13 @@ ghost use Rattle.walk.specs.Rows.{row_at, label_of, odd};
 ghost use Rattle.kinds.specs.Counts.{counted};
 ghost use Rattle.kinds.specs.Lists.{changes};
 
+use super::levels::count_product;
+
 // The number of orders of n values, or `None` where a walk may not have as many.
 pub(crate) fn count_changes(n: u16) -> Option<u32>
     ensures { result ≡ counted (length (changes n)) }
 {
-    let mut count: u32 = 1;
-    for last in 0..n {
-        count = count.checked_mul(u32::from(last) + 1)?;
-    }
-    Some(count)
+    count_product(1..=u32::from(n))
 }
 
 // The position of the value `last` at a place in a sweep, or the place at which it has a position: one tells the other
@@ -45,7 +43,8 @@ fn take_out(row: &mut [u8], at: usize)
     row[at..].rotate_left(1);
 }
 
-// A position at which a value stands, or `None` where there is none.
+// A position at which a value stands, or `None` where there is none. A loop over the values of a row with their index is
+// the form that `find` is to have.
 fn position_of(row: &[u8], value: u8) -> Option<usize>
     ensures { MatchOption result ((k : ℕ) → k < length row.now → slice_index row.now k ≢ value) (λ k. (k < length row.now) × (slice_index row.now k ≡ value)) }
 {
@@ -69,7 +68,7 @@ pub(crate) fn write_changes(label: u32, tray: &mut [u8])
     }
     let last = size - 1;
     let sweep = label / size;
-    write_changes(sweep, &mut tray[0..last as usize]);
+    write_changes(sweep, &mut tray[..last as usize]);
     let position = swept(last, sweep, label % size);
     put_in(tray, position as usize, last as u8);
 }
@@ -86,7 +85,7 @@ fn unwind(row: &mut [u8]) -> Option<u32>
     let last = size - 1;
     let position = position_of(row, last as u8)?;
     take_out(row, position);
-    let sweep = unwind(&mut row[0..last])?;
+    let sweep = unwind(&mut row[..last])?;
     let place = swept(last as u32, sweep, position as u32);
     Some(sweep * size as u32 + place)
 }
@@ -96,8 +95,9 @@ pub(crate) fn find_changes(row: &[u8]) -> Option<u32>
     requires { length row.now ≤ 12 }
     ensures { result ≡ label_of (changes (length row.now)) row.now }
 {
+    // `find` asks for no memory, so the copy stands in an array.
     let mut room = [0u8; 12];
-    let copy = &mut room[0..row.len()];
+    let copy = &mut room[..row.len()];
     copy.copy_from_slice(row);
     unwind(copy)
 }

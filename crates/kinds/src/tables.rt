@@ -11,7 +11,7 @@ use super::levels::{count_rows, levels_of};
 use super::multiset::count_words;
 use super::ranges::{choice_fits, counts_fit, radices_fit, stocks_fit};
 use super::shape::{Bin, Level};
-use super::ways::{bins_of, ways_of};
+use super::ways::{bins_of, count_ways};
 use std::alloc::{AllocError, Global};
 use walk::making::MakingFault;
 
@@ -26,9 +26,7 @@ pub(crate) fn radix_table(
     if !radices_fit(n, list) {
         return Err(MakingFault::OutOfRange);
     }
-    let Some(size) = count_rows(list) else {
-        return Err(MakingFault::TooManyRows);
-    };
+    let size = count_rows(list).ok_or(MakingFault::TooManyRows)?;
     let levels = levels_of(heap, list, size)?;
     Ok((levels, size))
 }
@@ -39,13 +37,9 @@ fn sums_table(heap: Global, stocks: &[u16], t: u16) -> Result<(Vec<Bin>, u32), M
     requires sum { t ≤ 32 }
     ensures { Tabled true (ways stocks.now t) (λ x. (x.0.items ≡ bins_of stocks.now) × (x.1 ≡ ways stocks.now t)) result }
 {
-    let counts = ways_of(stocks);
-    let count = counts[usize::from(t)];
-    if count > u64::from(u32::MAX) {
-        return Err(MakingFault::TooManyRows);
-    }
+    let size = count_ways(stocks, t).ok_or(MakingFault::TooManyRows)?;
     let bins = bins_of(heap, stocks)?;
-    Ok((bins, count as u32))
+    Ok((bins, size))
 }
 
 // The bins of n stocks, and the number of their rows with the sum t.
@@ -64,6 +58,7 @@ pub(crate) fn stock_table(
 }
 
 // The bins of n stocks of 1, and the number of their rows with the sum t.
+#[tactic(auto, using(crate::proofs::MadeTables::ones_between, crate::proofs::MadeTables::ones_taken))]
 pub(crate) fn choice_table(heap: Global, n: u16, t: u16) -> Result<(Vec<Bin>, u32), MakingFault>
     ensures { Tabled (choice_fits n t) (ways (replicate n 1) t) (λ x. (x.0.items ≡ bins_of (replicate n 1)) × (x.1 ≡ ways (replicate n 1) t)) result }
 {
@@ -71,7 +66,7 @@ pub(crate) fn choice_table(heap: Global, n: u16, t: u16) -> Result<(Vec<Bin>, u3
         return Err(MakingFault::OutOfRange);
     }
     let ones = [1u16; 32];
-    sums_table(heap, &ones[0..usize::from(n)], t)
+    sums_table(heap, &ones[..usize::from(n)], t)
 }
 
 // The counts as bytes.
@@ -79,11 +74,7 @@ fn bytes_of(heap: Global, counts: &[u16]) -> Result<Vec<u8>, AllocError>
     requires { sum counts.now ≤ 32 }
     ensures { IfOk result (λ v. v.items ≡ counts.now) }
 {
-    let mut bytes = Vec::with_capacity(heap, counts.len())?;
-    for count in counts {
-        bytes.push(*count as u8)?;
-    }
-    Ok(bytes)
+    counts.iter().map(|count| *count as u8).collect(heap)
 }
 
 // n counts, and the number of their words.
@@ -93,9 +84,7 @@ pub(crate) fn words_table(heap: Global, n: u16, list: &[u16]) -> Result<(Vec<u8>
     if !counts_fit(n, list) {
         return Err(MakingFault::OutOfRange);
     }
-    let Some(size) = count_words(list) else {
-        return Err(MakingFault::TooManyRows);
-    };
+    let size = count_words(list).ok_or(MakingFault::TooManyRows)?;
     let counts = bytes_of(heap, list)?;
     Ok((counts, size))
 }

@@ -1,59 +1,72 @@
 // Counts the rows with a sum, for every sum up to 32 at once, up to 2^32 rows.
-ghost use Rattle.std.specs.Prelude.{◌≡◌, ℕ, suc, ◌-◌, ◌<◌, ◌≤◌, min, true, List, [], ◌∷◌, length, IfOk, slice_index};
-ghost use Rattle.kinds.specs.Bins.{capped, capped_ways, bins_of};
+ghost use Rattle.std.specs.Prelude.{◌≡◌, ◌≤◌, true, [], IfOk, slice_index};
+ghost use Rattle.std.specs.List.{All};
+ghost use Rattle.kinds.specs.Bins.{capped_ways, count_with, counts_with, bins_of};
+ghost use Rattle.kinds.specs.Counts.{counted};
+ghost use Rattle.kinds.specs.Lists.{ways};
 ghost use Rattle.kinds.specs.Ranges.{all_between};
-ghost use Rattle.kinds.specs.Lists.{total};
 
 use super::shape::Bin;
 use std::alloc::{AllocError, Global};
+use std::array;
 
 // One more row than a walk may have: counts go no higher.
 const CAP: u64 = 4294967296;
 
-// The rows with a sum of a stock and those behind it.
-fn ways_with(most: u8, behind: &[u64; 33], sum: u8) -> u64
-    requires small { sum ≤ 32 }
-    requires few { (i : ℕ) → i < 33 → slice_index behind.now i ≤ 4294967296 }
-    ensures { result ≡ capped (total (suc (min most sum)) (λ v. slice_index behind.now (sum - v))) }
-{
-    let mut ways = 0;
-    for value in 0..=most.min(sum) {
-        ways += behind[usize::from(sum - value)];
-    }
-    ways.min(CAP)
+// How many rows there are with each sum.
+#[derive(Drop)]
+struct Ways {
+    counts: [u64; 33],
+    ghost few: { All (λ n. n ≤ 4294967296) counts },
 }
 
-// The counts of a stock and those behind it, from the counts of those behind it.
-fn ways_on(most: u8, behind: &[u64; 33]) -> [u64; 33]
-    requires { (i : ℕ) → i < 33 → slice_index behind.now i ≤ 4294967296 }
-    ensures { (stocks : List ℕ) → behind.now ≡ capped_ways stocks → result ≡ capped_ways (most ∷ stocks) }
-{
-    let mut ways = [0; 33];
-    for sum in 0..33u8 {
-        ways[usize::from(sum)] = ways_with(most, behind, sum);
+impl Ways {
+    // The counts of no stocks: one row, with the sum 0.
+    #[tactic(auto, using(crate::specs::WayCounts::ways_none))]
+    fn none() -> Ways
+        ensures { result.counts ≡ capped_ways [] }
+    {
+        let mut counts = [0; 33];
+        counts[0] = 1;
+        Ways { counts }
     }
-    ways
+
+    // The rows with a sum of a stock and those behind it.
+    fn sum_with(&self, most: u16, sum: usize) -> u64
+        requires { sum ≤ 32 }
+        ensures { result ≡ count_with most self.now.counts sum }
+    {
+        let first = sum.saturating_sub(usize::from(most));
+        self.counts[first..=sum].iter().sum::<u64>().min(CAP)
+    }
+
+    // The counts of a stock and those behind it.
+    fn with(&self, most: u16) -> Ways
+        ensures { result.counts ≡ counts_with most self.now.counts }
+    {
+        Ways {
+            counts: array::from_fn(|sum| self.sum_with(most, sum)),
+        }
+    }
+
+    // The counts of the stocks.
+    fn of(stocks: &[u16]) -> Ways
+        ensures { result.counts ≡ capped_ways stocks.now }
+    {
+        stocks
+            .iter()
+            .rev()
+            .fold(Ways::none(), |behind, most| behind.with(*most))
+    }
 }
 
-// The counts of no stocks: one row, with the sum 0.
-fn ways_of_none() -> [u64; 33]
-    ensures { result ≡ capped_ways [] }
+// The number of rows of the stocks with a sum, or `None` where a walk may not have as many.
+#[tactic(auto, using(crate::specs::WayCounts::ways_converted))]
+pub(crate) fn count_ways(stocks: &[u16], sum: u16) -> Option<u32>
+    requires { sum ≤ 32 }
+    ensures { result ≡ counted (ways stocks.now sum) }
 {
-    let mut ways = [0; 33];
-    ways[0] = 1;
-    ways
-}
-
-// The counts of the stocks.
-pub(crate) fn ways_of(stocks: &[u16]) -> [u64; 33]
-    requires { all_between 0 32 stocks.now ≡ true }
-    ensures { result ≡ capped_ways stocks.now }
-{
-    let mut ways = ways_of_none();
-    for i in (0..stocks.len()).rev() {
-        ways = ways_on(stocks[i] as u8, &ways);
-    }
-    ways
+    u32::try_from(Ways::of(stocks).counts[usize::from(sum)]).ok()
 }
 
 // Each stock with the counts of the stocks behind it.
@@ -62,11 +75,13 @@ pub(crate) fn bins_of(heap: Global, stocks: &[u16]) -> Result<Vec<Bin>, AllocErr
     ensures { IfOk result (λ v. v.items ≡ bins_of stocks.now) }
 {
     let mut bins = Vec::with_capacity(heap, stocks.len())?;
-    let mut ways = ways_of_none();
-    for i in (0..stocks.len()).rev() {
-        let most = stocks[i] as u8;
-        bins.push(Bin { most, ways })?;
-        ways = ways_on(most, &ways);
+    let mut behind = Ways::none();
+    for most in stocks.iter().rev() {
+        bins.push(Bin {
+            most: *most as u8,
+            ways: behind.counts,
+        })?;
+        behind = behind.with(*most);
     }
     bins.reverse();
     Ok(bins)

@@ -1,15 +1,10 @@
-use Rattle.std.proofs.Common.{◌+◌, ◌*◌, length, get_or, sym, ap, ◌∙◌, ap₂, arith}
-use Rattle.std.proofs.lemmas.List.{take_all}
+use Rattle.std.proofs.Common.{◌+◌, ◌*◌, length, get_or, sym, ◌∙◌, ap₂, arith}
 use Rattle.std.proofs.lemmas.List.Sums.{sum_by_more}
-use Rattle.kinds.specs.Counts.{counted}
 use Rattle.kinds.specs.Lists.{words}
 use Rattle.kinds.specs.WordNodes.{mixings}
-use Rattle.kinds.specs.Limits.{counted_within, counted_over, counted_some, counted_none}
-use Rattle.kinds.proofs.WordCounts.{sum_within, words_more, words_front}
+use Rattle.kinds.specs.Limits.{counted_over, counted_some, counted_none}
+use Rattle.kinds.proofs.WordCounts.{words_more, words_front}
 use Rattle.kinds.proofs.multiset.count_words.Goals as goal
-
-pub mix-requires : goal.mix-requires
-mix-requires c = omega (arith, c.loop-count.invariant.2, c.requires, sum_within c.args.counts.now c.loop-count.count-index c.loop-count-test.true)
 
 pub returns-in_err-rows : goal.returns-in_err-rows
 returns-in_err-rows c =
@@ -18,9 +13,6 @@ returns-in_err-rows c =
     let over = counted_none _ c.in_err-rows.ensures in
     let mixed = ap₂ (λ rows some. rows * mixings some (get_or counts i 0)) c.loop-count.invariant.1 c.loop-count.invariant.2 ∙ sym (words_more counts i c.loop-count-test.true) in
     c.from_residual.ensures ∙ sym (counted_over (length (words counts)) (omega (arith, over, mixed, words_front counts (i + 1))))
-
-pub overflow_add-some : goal.overflow_add-some
-overflow_add-some c = omega (arith, c.loop-count.invariant.2, c.requires, sum_within c.args.counts.now c.loop-count.count-index c.loop-count-test.true)
 
 pub loop-count-preserved : goal.loop-count-preserved
 loop-count-preserved c =
@@ -33,9 +25,3 @@ loop-count-preserved c =
           ∙ sym (words_more counts i c.loop-count-test.true),
       omega (arith, c.loop-count.invariant.2, sum_by_more (λ x. x) counts i 0 c.loop-count-test.true),
     )
-
-pub returns : goal.returns
-returns c =
-    let counts = c.args.counts.now in
-    let i = c.loop-count.count-index in
-    sym (counted_within c.loop-count.rows c.loop-count.invariant.0) ∙ ap counted (c.loop-count.invariant.1 ∙ ap (λ l. length (words l)) (take_all i counts (omega arith)))

@@ -1,4 +1,4 @@
-use Rattle.std.proofs.Common.{◌≡◌, ℕ, ◌+◌, ◌-◌, ◌*◌, ◌<◌, length, get_or, Some, None, sym, ap, ◌∙◌, arith}
+use Rattle.std.proofs.Common.{◌≡◌, ℕ, ◌+◌, ◌-◌, ◌*◌, ◌<◌, length, get_or, Some, None, refl, sym, ap, ◌∙◌, arith}
 use Rattle.std.specs.List.{remove}
 use Rattle.walk.specs.Rows.{label_of}
 use Rattle.kinds.specs.Lists.{changes}
@@ -19,7 +19,7 @@ returns-in_err-sweep t c =
     let at = c.in_ok-position.ensures in
     c.from_residual-in_err-sweep.ensures
     ∙ sym (label_none (length row - 1) position row (omega arith) at.0 at.1
-    (rest_label row c.take_out.new.row position (get_or row position 0) (length row - 1 - 0) None at.0 c.take_out.ensures (omega arith) c.in_err-sweep.ensures))
+    (rest_label row c.take_out.new.row position (get_or row position 0) (length row - 1) None at.0 c.take_out.ensures refl c.in_err-sweep.ensures))
 
 -- the label of what is left
 labelled : (t : ℕ) (c : goal.After-swept-place t) → label_of (changes (length c.args.row.now - 1)) (remove c.args.row.now c.in_ok-position.position) ≡ Some c.in_ok-sweep.sweep
@@ -27,7 +27,7 @@ labelled t c =
     let row = c.args.row.now in
     let position = c.in_ok-position.position in
     let at = c.in_ok-position.ensures in
-    rest_label row c.take_out.new.row position (get_or row position 0) (length row - 1 - 0) (Some c.in_ok-sweep.sweep) at.0 c.take_out.ensures (omega arith) c.in_ok-sweep.ensures
+    rest_label row c.take_out.new.row position (get_or row position 0) (length row - 1) (Some c.in_ok-sweep.sweep) at.0 c.take_out.ensures refl c.in_ok-sweep.ensures
 
 -- the label is small
 small : (t : ℕ) (c : goal.After-swept-place t) → c.in_ok-sweep.sweep * length c.args.row.now + c.swept-place.result < 479001600

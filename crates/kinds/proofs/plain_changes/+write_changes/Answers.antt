@@ -1,4 +1,4 @@
-use Rattle.std.proofs.Common.{◌≡◌, suc, ◌-◌, ◌/◌, ◌<◌, ◌++◌, length, take, drop, sym, ap, ◌∙◌, subst, arith, rules}
+use Rattle.std.proofs.Common.{◌≡◌, suc, ◌-◌, ◌/◌, ◌<◌, ◌++◌, length, drop, sym, ap, ◌∙◌, subst, arith, rules}
 use Rattle.std.specs.List.{insert}
 use Rattle.std.proofs.lemmas.List.{take_at, length-take-le, length-append, length-drop}
 use Rattle.walk.specs.Rows.{row_at}
@@ -14,7 +14,7 @@ write_changes-requires t c =
     let tray = c.args.tray.now in
     let n = length tray - 1 in
     let next : length tray ≡ suc n = omega arith in
-    let size : length (take (n - 0) tray) ≡ n = length-take-le (n - 0) tray (omega arith) ∙ omega arith in
+    let size = length-take-le n tray (omega arith) in
     (search rules, (omega arith, subst (λ k. c.args.label / length tray < length (changes k)) (sym size) (sweep_below (length tray) n next c.args.label c.requires.listed)))
 
 pub returns : goal.returns
@@ -22,12 +22,12 @@ returns t c =
     let tray = c.args.tray.now in
     let label = c.args.label in
     let front = c.write_changes.new.tray in
-    let past = drop (length tray - 1 - 0) tray in
     let n = length tray - 1 in
+    let past = drop n tray in
     let next : length tray ≡ suc n = omega arith in
-    let part : length (take (n - 0) tray) ≡ n = length-take-le (n - 0) tray (omega arith) ∙ omega arith in
+    let part = length-take-le n tray (omega arith) in
     let size : length front ≡ n = omega (arith, part) in
-    let whole : length front ≡ length (front ++ past) - 1 = omega (arith, length-append front past, length-drop (n - 0) tray) in
+    let whole : length front ≡ length (front ++ past) - 1 = omega (arith, length-append front past, length-drop n tray) in
     c.put_in.ensures
     ∙ ap (λ s. insert s c.swept-position.result n) (take_at front past (length (front ++ past) - 1) whole)
     ∙ row_more (length tray) n next label c.requires.listed front c.swept-position.result (c.write_changes.ensures ∙ ap (λ k. row_at (changes k) (label / length tray)) part) c.swept-position.ensures

@@ -1,23 +1,11 @@
-use Rattle.std.proofs.Common.{sum, sym, arith}
-use Rattle.std.proofs.lemmas.List.{at_drop_all}
-use Rattle.std.proofs.lemmas.List.Sums.{sum_by-drop_more}
-use Rattle.std.proofs.lemmas.Bool.{le-leb, lt-leb}
+use Rattle.std.proofs.Common.{ap, ◌∙◌, rules}
+use Rattle.std.specs.Option.{is_some}
+use Rattle.std.proofs.lemmas.Iterator.{YieldsList-from_slice}
+use Rattle.kinds.proofs.Folds.{stepped_from_yields_List, taken, taken_checked, taken_each}
 use Rattle.kinds.proofs.ranges.sum_within.Goals as goal
-
-pub returns-in_default : goal.returns-in_default
-returns-in_default c =
-    let list = c.args.list.now in
-    let more = sum_by-drop_more (λ x. x) list c.loop-x.x-index 0 c.loop-x-test.true in
-    sym (lt-leb (sum list) c.args.most (omega (arith, c.loop-x.invariant, more, c.in_default.ensures)))
-
-pub loop-x-preserved : goal.loop-x-preserved
-loop-x-preserved c =
-    let list = c.args.list.now in
-    let more = sum_by-drop_more (λ x. x) list c.loop-x.x-index 0 c.loop-x-test.true in
-    omega (arith, c.loop-x.invariant, more, c.in-Some.ensures)
 
 pub returns : goal.returns
 returns c =
-    let list = c.args.list.now in
-    let none = at_drop_all sum list c.loop-x.x-index (omega arith) in
-    sym (le-leb (sum list) c.args.most (omega (arith, c.loop-x.invariant, none)))
+    c.is_some.ensures
+    ∙ ap is_some (stepped_from_yields_List _ _ _ _ taken _ (λ b x w q k. search (rules, taken_checked)) c.try_fold.result _ _ c.args.most c.args.list.now c.try_fold.ensures.ran (YieldsList-from_slice c.args.list.now cc))
+    ∙ taken_each c.args.most c.args.list.now

@@ -2,7 +2,7 @@ use Rattle.std.proofs.Common.{◌-◌, ◌*◌, ◌/◌, ◌<◌, false, [], ◌
 use Rattle.kinds.specs.Lists.{words_of, one_less}
 use Rattle.kinds.specs.Tree.{Stands}
 use Rattle.kinds.specs.Nodes.{Nowhere, stands_as}
-use Rattle.kinds.proofs.WordTree.{before_within, count_within, node_lacks, node_enters, node_less}
+use Rattle.kinds.proofs.WordTree.{node_lacks, node_enters, node_less}
 use Rattle.kinds.proofs.multiset.WordsNodeNode.enter.Goals as goal
 use Rattle.kinds.proofs.multiset.WordsNodeNode.enter.Goals.{then-v-self-via-then-v-self, then-v-self-via-else-v-self+then-self-v-eq0}
 
@@ -12,12 +12,6 @@ returns-then-v-self c =
     let none = node_lacks self c.from-v.result c.requires
     (elim c.then-v-self.branch [ then-v-self-via-then-v-self w ↦ inl w.if-v-self.true | then-v-self-via-else-v-self+then-self-v-eq0 w ↦ inr (w.if-v-self.false, w.if-self-v-eq0.true) ]) in
     record { branch = subst (Nowhere (words_of self.left (take self.kinds self.counts))) c.from-v.ensures none; down = tt }
-
-pub share-from-requires : goal.share-from-requires
-share-from-requires c = record { some = c.requires; part = omega (arith, c.before-2.ensures, before_within c.args.self.now c.from-v.result (omega arith)) }
-
-pub share-count-requires : goal.share-count-requires
-share-count-requires c = record { some = c.requires; part = count_within c.args.self.now c.from-v.result c.if-v-self.false }
 
 pub invariant_of-self : goal.invariant_of-self
 invariant_of-self c =
