@@ -1,14 +1,10 @@
 -- What is known of the tables from which kinds are made. Assumes nothing.
-use Rattle.std.proofs.Common.{◌≡◌, ℕ, zero, suc, ◌-◌, ◌<◌, ◌≤◌, Bool, true, false, not, ◌&&◌, ◌||◌, eqb, leb, List, length, get_or, take, replicate, Err, vec_items, sum, Result, Vec, sym, refl, ap, ◌∙◌, subst, ap₂, ⊎_elim, arith}
-use native.Mathlib.Nat.{sub-zero}
+use Rattle.std.proofs.Common.{◌≡◌, ℕ, zero, suc, ◌<◌, ◌≤◌, Bool, true, false, not, ◌&&◌, ◌||◌, eqb, leb, List, length, take, replicate, vec_items, sum, Vec, sym, refl, ap, ◌∙◌, subst, ⊎_elim, arith}
 use lib.ListN.{length-replicate}
 use Rattle.std.specs.declared.alloc.Global.{Global}
 use Rattle.std.proofs.lemmas.List.{take-replicate}
 use Rattle.std.proofs.lemmas.Bool.{and_parts, and_from, cases_lt, leb-true, le-leb, eqb-true}
-use Rattle.walk.specs.declared.making.MakingFault.{MakingFault}
-use Rattle.walk.specs.declared.making.MakingFault.TheVariants.{NoMemory}
-use Rattle.kinds.specs.Bins.{mosts, bins_of, bins_hold, filled, capped, capped_ways}
-use Rattle.kinds.specs.Counts.{Tabled}
+use Rattle.kinds.specs.Bins.{mosts, bins_of, bins_hold, filled}
 use Rattle.kinds.specs.Kinds.{radices_fit, stocks_fit, choice_fits}
 use Rattle.kinds.specs.Lists.{product, ways, door, changes}
 use Rattle.kinds.specs.Ranges.{all_between}
