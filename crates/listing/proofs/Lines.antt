@@ -1,8 +1,8 @@
 -- How the text of a row grows. Assumes nothing.
-use Rattle.std.proofs.Common.{◌≡◌, ℕ, ◌+◌, ◌<◌, List, [], ◌∷◌, ◌++◌, length, get_or, take, codes, decimal, sym, refl, ap, ◌∙◌, arith}
+use Rattle.std.proofs.Common.{◌≡◌, ℕ, ◌+◌, ◌<◌, ◌≤◌, List, [], ◌∷◌, ◌++◌, length, get_or, take, codes, decimal, sym, refl, ap, ◌∙◌, ap₂, arith}
 use Rattle.std.specs.List.{range_with_len, flat_map}
 use Rattle.std.proofs.lemmas.List.FromFn.{map-range_with_len_more}
-use Rattle.std.proofs.lemmas.List.{append_assoc, flat_map_more, map-id, take_more, length-take-le}
+use Rattle.std.proofs.lemmas.List.{append_assoc, flat_map_more, map-id, take_all, take_more, length-take-le}
 use Rattle.walk.specs.Rows.{Row}
 use Rattle.listing.specs.Texts.{gap_text, row_text}
 
@@ -13,11 +13,20 @@ row_text_push (w ∷ []) v = refl
 row_text_push (w ∷ x ∷ r) v =
     ap (λ t. decimal w ++ (codes " " ++ t)) (row_text_push (x ∷ r) v) ∙ sym (append_assoc (decimal w) (codes " " ++ row_text (x ∷ r)) _)
 
--- the values before the place i, and the one there
-pub row_text_more : (before : List ℕ) (r : Row) (i : ℕ) → i < length r → before ++ (row_text (take i r) ++ (gap_text i ++ decimal (get_or r i 0))) ≡ before ++ row_text (take (i + 1) r)
-row_text_more before r i lt =
+-- what a row's text grows by at the place i
+pub row_text_more : (out now gap before : List ℕ) (r : Row) (i : ℕ) → i < length r → gap ≡ gap_text i → out ≡ before ++ row_text (take i r) → now ≡ out ++ (gap ++ decimal (get_or r i 0)) → now ≡ before ++ row_text (take (i + 1) r)
+row_text_more out now gap before r i lt is so more =
     let long : length (take i r) ≡ i = length-take-le i r (omega arith) in
-    ap (λ t. before ++ t) (sym (ap row_text (take_more r i 0 lt) ∙ row_text_push (take i r) (get_or r i 0) ∙ ap (λ n. row_text (take i r) ++ (gap_text n ++ decimal (get_or r i 0))) long))
+    let last = decimal (get_or r i 0) in
+    let grows : row_text (take (i + 1) r) ≡ row_text (take i r) ++ (gap_text (length (take i r)) ++ last) = ap row_text (take_more r i 0 lt) ∙ row_text_push (take i r) (get_or r i 0) in
+    more
+    ∙ ap₂ (λ t g. t ++ (g ++ last)) so (is ∙ ap gap_text (sym long))
+    ∙ append_assoc before _ _
+    ∙ ap (λ t. before ++ t) (sym grows)
+
+-- after the last place the row is whole
+pub row_text_whole : (out before : List ℕ) (r : Row) (i : ℕ) → length r ≤ i → out ≡ before ++ row_text (take i r) → out ≡ before ++ row_text r
+row_text_whole out before r i all so = so ∙ ap (λ t. before ++ row_text t) (take_all i r all)
 
 -- the pieces of a line, one behind the other
 pub line_grows : (before label comma values end : List ℕ) → ((before ++ (label ++ comma)) ++ values) ++ end ≡ before ++ (label ++ (comma ++ (values ++ end)))

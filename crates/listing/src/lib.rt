@@ -23,36 +23,35 @@ fn gap(place: usize) -> &'static str
 }
 
 // Appends the values of a row, with one blank between neighbours.
-pub fn push_row(heap: Global, out: &mut String, row: &[u8]) -> Result<(), AllocError>
+#[tactic(auto, using(crate::proofs::Lines::row_text_more, crate::proofs::Lines::row_text_whole))]
+pub fn push_row(out: &mut String, row: &[u8]) -> Result<(), AllocError>
     ensures { OnOk result (string_bytes out.new ≡ string_bytes out.old ++ row_text row.now) }
 {
     for (place, value) in row.iter().enumerate() {
         let gap = gap(place);
-        out.push_str(format!(in heap; "{gap}{value}")?.as_str())?;
+        write!(out, "{gap}{value}")?;
     }
     Ok(())
 }
 
-// Appends the line of the row at a label, and leaves the walk there.
+// Appends the line of the row at a label, and leaves the walk there. The tray is as wide as a row.
 fn push_line<W: Walk>(
-    heap: Global,
     out: &mut String,
     walk: &mut W,
+    tray: &mut [u8],
     label: u32,
 ) -> Result<(), AllocError>
-    requires { label < size (W.Walk.meaning walk.old) }
+    requires known { label < size (W.Walk.meaning walk.old) }
+    requires wide { length tray.old ≡ (W.Walk.meaning walk.old).width }
     ensures after { W.Walk.meaning walk.new ≡ standing (W.Walk.meaning walk.old) label }
     ensures text { OnOk result (string_bytes out.new ≡ string_bytes out.old ++ line_text label (row (W.Walk.meaning walk.old) label)) }
 {
-    let mut tray = [0u8; 64];
-    let width = walk.width();
-    // The label is below the size and the tray is as wide as any row, so neither call is refused.
+    // The label is below the size and the tray is wide enough, so neither call is refused.
     let _ = walk.seek(label);
-    let _ = walk.read(&mut tray);
-    out.push_str(format!(in heap; "{label},")?.as_str())?;
-    push_row(heap, out, &tray[0..width])?;
-    out.push_str("\n")?;
-    Ok(())
+    let _ = walk.read(tray);
+    write!(out, "{label},")?;
+    push_row(out, tray)?;
+    out.push('\n')
 }
 
 // The rows of a walk as text: the names, and then a line for each of the first 1,000 rows. The walk ends where it stood.
@@ -63,9 +62,9 @@ pub fn listing<W: Walk>(heap: Global, walk: &mut W) -> Result<String, AllocError
 {
     let place = walk.place();
     let mut out = String::from_str(heap, "label,row\n")?;
-    let count = walk.size().min(MOST);
-    for label in 0..count {
-        push_line(heap, &mut out, walk, label)?;
+    let mut tray = vec![in heap; 0; walk.width()]?;
+    for label in 0..walk.size().min(MOST) {
+        push_line(&mut out, walk, &mut tray, label)?;
     }
     let _ = walk.seek(place);
     Ok(out)
