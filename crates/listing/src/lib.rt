@@ -1,15 +1,16 @@
 // Writes the rows of a walk as text.
 #![tactic(auto)]
 
-ghost use Rattle.std.specs.Prelude.{◌≡◌, ◌<◌, ◌≤◌, true, ◌++◌, length, is_some, IfOk, string_bytes, OnOk};
+ghost use Rattle.std.specs.Prelude.{◌≡◌, ◌<◌, ◌≤◌, true, ◌++◌, length, is_some, IfSome, IfOk, string_bytes, OnOk};
 ghost use Rattle.walk.specs.Meaning.{size, row, standing};
 ghost use Rattle.faults.specs.Faults.{cause_number};
 ghost use Rattle.plan.specs.Format.{plan_of};
-ghost use Rattle.listing.specs.Texts.{gap_text, row_text, line_text, listing_text, fault_text, layer_text, told, report_text};
+ghost use Rattle.listing.specs.Texts.{gap_text, row_text, line_text, listing_text, fault_text, told, report_text};
 
-use faults::{Layer, PlanFault};
+use faults::PlanFault;
 use plan::read::read;
 use std::alloc::{AllocError, Global};
+use std::fmt::Display;
 use walk::Walk;
 
 // The most rows that are listed.
@@ -71,21 +72,15 @@ pub fn listing<W: Walk>(heap: Global, walk: &mut W) -> Result<String, AllocError
 }
 
 // A fault as text: the names, and one line with its number, its line and its layer.
-pub fn fault_text(heap: Global, number: u8, line: u8, layer: &str) -> Result<String, AllocError>
-    ensures { IfOk result (λ s. string_bytes s ≡ fault_text number line layer.now) }
+pub fn fault_text<L: Display + Drop>(
+    heap: Global,
+    number: u8,
+    line: u8,
+    layer: L,
+) -> Result<String, AllocError>
+    ensures { IfSome (L.Display.output layer) (λ word. IfOk result (λ s. string_bytes s ≡ fault_text number line word)) }
 {
     format!(in heap; "number,line,layer\n{number},{line},{layer}\n")
-}
-
-// The word for a layer.
-fn layer_word(layer: Layer) -> &'static str
-    ensures { result.now ≡ layer_text layer }
-{
-    match layer {
-        Layer::Text => "text",
-        Layer::Part => "part",
-        Layer::Join => "join",
-    }
 }
 
 // What is told of a fault; want of memory is not told.
@@ -93,10 +88,8 @@ pub fn tell(heap: Global, fault: PlanFault) -> Result<String, AllocError>
     ensures text { IfOk result (λ s. string_bytes s ≡ told fault (cause_number fault.cause)) }
     ensures numbered { OnOk result (is_some (cause_number fault.cause) ≡ true) }
 {
-    match fault.number() {
-        Some(number) => fault_text(heap, number, fault.line, layer_word(fault.layer())),
-        None => Err(AllocError),
-    }
+    let number = fault.number().ok_or(AllocError)?;
+    fault_text(heap, number, fault.line, fault.layer())
 }
 
 // What the lister writes of a plan text: its rows, or its fault.
