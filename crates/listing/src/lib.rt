@@ -24,7 +24,7 @@ fn gap(place: usize) -> &'static str
 }
 
 // Appends the values of a row, with one blank between neighbours.
-#[tactic(auto, using(crate::proofs::Lines::row_text_more, crate::proofs::Lines::row_text_whole))]
+#[tactic(auto, using(crate::proofs::Lines::row_text_more))]
 pub fn push_row(out: &mut String, row: &[u8]) -> Result<(), AllocError>
     ensures { OnOk result (string_bytes out.new ≡ string_bytes out.old ++ row_text row.now) }
 {
