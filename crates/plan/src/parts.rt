@@ -22,35 +22,28 @@ pub(crate) fn make_parts(heap: Global, mut lines: Pieces<'_>) -> Result<Vec<Kind
     ensures { Gives (λ v. meanings v.items) result (parts_made (coming lines.entry)) }
 {
     let mut made = Vec::new(heap);
-    let mut fault = None;
-    'parts: for line in 2..5 {
-        let Some(bytes) = lines.next() else {
-            break 'parts;
-        };
-        let part = Field { line, bytes };
-        let Some(head) = Head::of(part) else {
-            fault = Some(part.fault(Cause::Part(PartFault::Form)));
-            break 'parts;
-        };
-        let mut list = Vec::new(heap);
-        for piece in head.entries {
-            let Some(x) = number(piece) else {
-                fault = Some(part.fault(Cause::Part(PartFault::Form)));
-                break 'parts;
+    'parts: {
+        for line in 2..5 {
+            let Some(bytes) = lines.next() else {
+                break;
             };
-            list.push(x)?;
-        }
-        match head.make(heap, &list) {
-            Ok(kind) => made.push(kind)?,
-            Err(e) => {
-                fault = Some(part.fault(Cause::from(e)));
-                break 'parts;
+            let part = Field { line, bytes };
+            let Some(head) = Head::of(part) else {
+                break 'parts Err(part.fault(Cause::Part(PartFault::Form)));
+            };
+            let mut list = Vec::new(heap);
+            for piece in head.entries {
+                let Some(x) = number(piece) else {
+                    break 'parts Err(part.fault(Cause::Part(PartFault::Form)));
+                };
+                list.push(x)?;
+            }
+            match head.make(heap, &list) {
+                Ok(kind) => made.push(kind)?,
+                Err(e) => break 'parts Err(part.fault(Cause::from(e))),
             }
         }
-    }
-    match fault {
-        Some(fault) => Err(fault),
-        None => Ok(made),
+        Ok(made)
     }
 }
 
