@@ -8,8 +8,12 @@ use Rattle.plan.proofs.parts.make_parts.Given as goal
 -- at most as many lines as numbers for them, and the parts made so far before those to come
 abbrev pub invariant-loop-line : goal.invariant-loop-line
 invariant-loop-line l =
-    (length (coming l.lines) + l.line ≤ 5) ×
-    (parts_made (coming l.initial.lines) ≡ also (meanings (vec_items l.made)) (each line_made (numbered l.line (coming l.lines))))
+    let it = l.line-iterator in
+    (goal.iterator-loop-line).can_next it ×
+    (goal.iterator-loop-line).is_finite it ×
+    (it.a.end ≡ 5) ×
+    (length (coming it.b) + it.a.start ≤ 5) ×
+    (parts_made (coming l.initial.lines) ≡ also (meanings (vec_items l.made)) (each line_made (numbered it.a.start (coming it.b))))
 
 -- the numbers read so far before those to come
 abbrev pub invariant-loop-piece : goal.invariant-loop-piece
