@@ -1,5 +1,5 @@
 -- The numbers by which faults of a plan text are told, and the layers that find them. Assumes nothing.
-use Rattle.std.specs.Prelude.{ℕ, Some, Option}
+use Rattle.std.specs.Prelude.{ℕ, List, Some, codes, Option}
 use Rattle.walk.specs.Making.{making_number}
 use Rattle.joins.specs.Fault.{join_number}
 use Rattle.faults.specs.declared.PartFault.TheVariants.{Form, Making}
@@ -23,6 +23,12 @@ cause_layer Names = TextLayer
 cause_layer (Part Form) = TextLayer
 cause_layer (Part (Making fault)) = PartLayer
 cause_layer (Join fault) = JoinLayer
+
+-- the word for a layer
+abbrev pub layer_text : Layer → List ℕ
+layer_text TextLayer = codes "text"
+layer_text PartLayer = codes "part"
+layer_text JoinLayer = codes "join"
 
 -- a cause with the line on which it stands
 abbrev pub fault : Cause → ℕ → PlanFault

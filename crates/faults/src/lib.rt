@@ -1,14 +1,15 @@
 // Why a plan text was refused, and where.
 #![tactic(auto)]
 
-ghost use Rattle.std.specs.Prelude.{◌≡◌};
+ghost use Rattle.std.specs.Prelude.{◌≡◌, Some};
 ghost use Rattle.walk.specs.declared.making.MakingFault.TheVariants.{NoMemory};
-ghost use Rattle.faults.specs.Faults.{cause_number, cause_layer, fault as lined};
+ghost use Rattle.faults.specs.Faults.{cause_number, cause_layer, layer_text, fault as lined};
 ghost use Rattle.faults.specs.declared.PartFault.TheVariants.{Making};
 ghost use Rattle.faults.specs.declared.Cause.TheVariants.{Part as PartCause, Join as JoinCause};
 
 use joins::fault::JoinFault;
 use std::alloc::AllocFailed;
+use std::fmt;
 use walk::making::MakingFault;
 
 // What is wrong with the line of a part.
@@ -72,6 +73,20 @@ impl PlanFault {
     }
 }
 
+impl fmt::Display for Layer {
+    ghost output = { λ layer. Some (layer_text layer) };
+
+    fn fmt<W: fmt::Write>(&self, f: &mut fmt::Formatter<W>) -> fmt::Result {
+        f.write_str(match self {
+            Layer::Text => "text",
+            Layer::Part => "part",
+            Layer::Join => "join",
+        })
+    }
+}
+
+// The conversions say what they give, which those of a derive would not.
+
 impl From<MakingFault> for PartFault {
     ghost from_gives = { λ fault r. r ≡ Making fault };
 
@@ -102,7 +117,7 @@ impl From<MakingFault> for PlanFault {
 
     fn from(fault: MakingFault) -> PlanFault {
         PlanFault {
-            cause: Cause::Part(PartFault::Making(fault)),
+            cause: Cause::from(PartFault::from(fault)),
             line: 0,
         }
     }
@@ -111,10 +126,7 @@ impl From<MakingFault> for PlanFault {
 impl<T: Drop> From<AllocFailed<T>> for PlanFault {
     ghost from_gives = { λ _ r. r ≡ lined (PartCause (Making NoMemory)) 0 };
 
-    fn from(_e: AllocFailed<T>) -> PlanFault {
-        PlanFault {
-            cause: Cause::Part(PartFault::Making(MakingFault::NoMemory)),
-            line: 0,
-        }
+    fn from(e: AllocFailed<T>) -> PlanFault {
+        Self::from(MakingFault::from(e))
     }
 }

@@ -3,9 +3,7 @@ use Rattle.std.specs.Prelude.{ℕ, zero, suc, min, List, [], ◌∷◌, ◌++◌
 use Rattle.std.specs.List.{range_with_len, flat_map}
 use Rattle.walk.specs.Meaning.{Meaning, size, row}
 use Rattle.walk.specs.Rows.{Row}
-use Rattle.faults.specs.Faults.{cause_number, cause_layer}
-use Rattle.faults.specs.declared.Layer.{Layer}
-use Rattle.faults.specs.declared.Layer.TheVariants.{Text, Part, Join}
+use Rattle.faults.specs.Faults.{cause_number, cause_layer, layer_text}
 use Rattle.faults.specs.declared.PlanFault.{PlanFault}
 
 -- the values of a row, with one blank between neighbours
@@ -30,11 +28,6 @@ listing_text m = codes "label,row\n" ++ flat_map (λ label. line_text label (row
 -- a fault: the names, and one line with its number, its line and its layer
 abbrev pub fault_text : ℕ → ℕ → List ℕ → List ℕ
 fault_text number line layer = codes "number,line,layer\n" ++ (decimal number ++ (codes "," ++ (decimal line ++ (codes "," ++ (layer ++ codes "\n")))))
-
-abbrev pub layer_text : Layer → List ℕ
-layer_text Text = codes "text"
-layer_text Part = codes "part"
-layer_text Join = codes "join"
 
 -- the fault that the numbers tell; want of memory has none, and is no fault of a text
 abbrev pub told : PlanFault → Option ℕ → List ℕ

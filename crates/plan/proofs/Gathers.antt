@@ -7,11 +7,6 @@ use Rattle.plan.specs.Format.{then, each}
 abbrev pub also : {Y E : Type 0} → List Y → Result (List Y) E → Result (List Y) E
 also front r = result_map_both (λ ys. front ++ ys) (λ e. e) r
 
--- nothing was gathered yet
-pub also_none : {Y E : Type 0} (r : Result (List Y) E) → also [] r ≡ r
-also_none (Ok ys) = refl
-also_none (Err e) = refl
-
 -- y goes to the end of what was gathered
 also_more : {Y E : Type 0} (front : List Y) (y : Y) (r : Result (List Y) E) → also front (then r (λ ys. Ok (y ∷ ys))) ≡ also (front ++ y ∷ []) r
 also_more front y (Ok ys) = ap Ok (sym (append_assoc front (y ∷ []) ys))
@@ -22,10 +17,6 @@ module _ {X Y E : Type 0} (f : X → Result Y E) (all : Result (List Y) E) (fron
   pub each_more : (x : X) (more : List X) (y : Y) (after : List Y) → all ≡ also front (each f (x ∷ more)) → f x ≡ Ok y → after ≡ front ++ y ∷ [] → all ≡ also after (each f more)
   each_more x more y after so is pushed =
       so ∙ ap (λ r. also front (then r (λ z. then (each f more) (λ ys. Ok (z ∷ ys))))) is ∙ also_more front y (each f more) ∙ ap (λ l. also l (each f more)) (sym pushed)
-
-  -- the first fault ends it
-  pub each_stops : (x : X) (more : List X) (e : E) → all ≡ also front (each f (x ∷ more)) → f x ≡ Err e → all ≡ Err e
-  each_stops x more e so is = so ∙ ap (λ r. also front (then r (λ z. then (each f more) (λ ys. Ok (z ∷ ys))))) is
 
   -- after the last, all is gathered
   pub each_done : (xs : List X) → xs ≡ [] → all ≡ also front (each f xs) → all ≡ Ok front

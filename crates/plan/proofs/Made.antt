@@ -10,7 +10,7 @@ use Rattle.faults.specs.declared.PartFault.TheVariants.{Form}
 use Rattle.faults.specs.declared.PlanFault.{PlanFault}
 use Rattle.plan.specs.Format.{Head, then, each, on_line, entry_read, head_of_line, head_made, part_made, numbered, line_made}
 use Rattle.plan.specs.Reading.{meanings}
-use Rattle.plan.proofs.Gathers.{also, each_more, each_done}
+use Rattle.plan.proofs.Gathers.{also, each_more}
 
 -- once its form and its list are read, a part is what making gives
 pub part_read : (bytes : List ℕ) (head : Head) (list : List ℕ) → Some head ≡ head_of_line bytes → each entry_read head.entries ≡ Ok list → part_made bytes ≡ head_made head list
@@ -26,7 +26,3 @@ module _ (all : Result (List Meaning) PlanFault) (made : List Kind) (line : ℕ)
       (so ∙ ap (λ ls. also (meanings made) (each line_made (numbered line ls))) comes)
       (ap (on_line PartCause line) is)
       (ap meanings pushed ∙ map-append kind_meaning made (kind ∷ [])))
-
-  -- no line is left
-  pub parts_done : lines ≡ [] → all ≡ Ok (meanings made)
-  parts_done none = each_done line_made all (meanings made) (numbered line lines) (ap (numbered line) none) so

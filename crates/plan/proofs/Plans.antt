@@ -1,17 +1,36 @@
 -- From the lines of a text to its walk. Assumes nothing.
-use Rattle.std.proofs.Common.{◌≡◌, ℕ, ◌+◌, true, false, ltb, ◌⊎◌, List, [], ◌∷◌, ◌++◌, map, length, get_or, drop, is_some, Some, None, Ok, Err, codes, Option, Result, unwrap_or, sym, ap, ◌∙◌, subst, inl, inr, arith}
+use Rattle.std.proofs.Common.{◌≡◌, ℕ, ◌+◌, ◌≤◌, Bool, true, false, ◌&&◌, ltb, leb, refl, ◌⊎◌, List, [], ◌∷◌, ◌++◌, map, length, get_or, drop, is_some, Some, None, Ok, Err, codes, Option, Result, unwrap_or, sym, ap, ◌∙◌, subst, inl, inr, arith}
 use Rattle.std.specs.Option as options
 use Rattle.std.specs.Option.{ok_or, option_to_list}
 use Rattle.std.specs.Result as results
 use Rattle.std.specs.Str.{bytes_eq}
 use Rattle.std.proofs.lemmas.List.{nil_from_length}
-use Rattle.std.proofs.lemmas.Bool.{cond-true, cond-false, ltb-false}
+use Rattle.std.proofs.lemmas.Bool.{cond-true, cond-false, ltb-false, leb-true}
 use Rattle.walk.specs.Meaning.{Meaning}
 use Rattle.faults.specs.Faults.{fault}
 use Rattle.faults.specs.declared.Cause.TheVariants.{Text, Names}
 use Rattle.faults.specs.declared.PlanFault.{PlanFault}
-use Rattle.plan.specs.Format.{then, Lines, lines_of_text, parts_made, blank, joined_parts, all_joined, plan_of_lines, plan_of}
+use Rattle.plan.specs.Format.{and_then, provided, then, body, Lines, plan_lines, lines_of_text, parts_made, blank, joined_parts, all_joined, plan_of_lines, plan_of}
 use Rattle.plan.specs.Reading.{LacksMemory, Gives}
+use Rattle.text.specs.Pieces.{pieces}
+
+few_lines : (ps : List (List ℕ)) (lines : Lines) → Some lines ≡ plan_lines ps → length lines.parts ≤ 3
+few_lines [] lines is = absurd (let never : ◌≡◌ {A = ℕ} 0 1 = cc in omega arith)
+few_lines (names ∷ parts) lines is = go (leb 1 (length parts)) (leb (length parts) 3) refl is
+  where
+    go : (some few : Bool) → leb (length parts) 3 ≡ few → Some lines ≡ provided (some && few) (Some (record { names = names; parts = parts })) → length lines.parts ≤ 3
+    go true true few has = let same : lines.parts ≡ parts = cc in omega (arith, ap length same, leb-true (length parts) 3 few)
+    go true false few has = absurd (let never : ◌≡◌ {A = ℕ} 0 1 = cc in omega arith)
+    go false b few has = absurd (let never : ◌≡◌ {A = ℕ} 0 1 = cc in omega arith)
+
+-- the lines of a plan are at most four
+pub few_parts : (text : List ℕ) (lines : Lines) → Some lines ≡ lines_of_text text → length lines.parts ≤ 3
+few_parts text lines is = go (leb (length text) 4096) (body text) is
+  where
+    go : (short : Bool) (bytes : Option (List ℕ)) → Some lines ≡ provided short (and_then bytes (λ front. plan_lines (pieces 10 front))) → length lines.parts ≤ 3
+    go false bytes has = absurd (let never : ◌≡◌ {A = ℕ} 0 1 = cc in omega arith)
+    go true None has = absurd (let never : ◌≡◌ {A = ℕ} 0 1 = cc in omega arith)
+    go true (Some front) has = few_lines (pieces 10 front) lines has
 
 -- a text that has the lines of a plan
 pub plan_at_lines : (text : List ℕ) (lines : Lines) → Some lines ≡ lines_of_text text → plan_of text ≡ plan_of_lines lines

@@ -50,6 +50,7 @@ fn one_to_three(mut parts: Pieces<'_>) -> bool
 
 impl<'a> Lines<'a> {
     // Two to four lines, each ended by a line feed.
+    #[tactic(auto, using(crate::proofs::Ends::lines_open, crate::proofs::Ends::lines_ended))]
     pub fn of(text: &'a [u8]) -> Option<Lines<'a>>
         ensures parts { option_map lines_read result ≡ lines_of_text text.now }
         ensures placed { IfSome result (λ l. l.names.line ≡ 1) }
@@ -57,10 +58,7 @@ impl<'a> Lines<'a> {
         if text.len() > LONGEST {
             return None;
         }
-        let (last, body) = text.split_last()?;
-        if *last != b'\n' {
-            return None;
-        }
+        let body = text.strip_suffix(b"\n".as_slice())?;
         let mut parts = Pieces::new(body, b'\n');
         let names = Field {
             line: 1,
@@ -79,25 +77,12 @@ impl<'a> Field<'a> {
         ensures parts { option_map fields_read result ≡ four_fields (pieces 44 self.entry.bytes.now) }
         ensures placed { IfSome result (OnLine self.entry.line) }
     {
-        let line = self.line;
-        let mut pieces = Pieces::new(self.bytes, b',');
-        let kind = Field {
-            line,
-            bytes: pieces.next()?,
-        };
-        let n = Field {
-            line,
-            bytes: pieces.next()?,
-        };
-        let t = Field {
-            line,
-            bytes: pieces.next()?,
-        };
-        let list = Field {
-            line,
-            bytes: pieces.next()?,
-        };
-        if pieces.next().is_some() {
+        let mut fields = Pieces::new(self.bytes, b',').map(|bytes| Field { bytes, ..self });
+        let kind = fields.next()?;
+        let n = fields.next()?;
+        let t = fields.next()?;
+        let list = fields.next()?;
+        if fields.next().is_some() {
             return None;
         }
         Some(Fields { kind, n, t, list })

@@ -18,13 +18,10 @@ fn join<L: Walk + Drop, R: Walk + Drop>(
 ) -> Result<Join<L, R>, PlanFault>
     ensures { result_map_both (join_meaning L.Walk.meaning R.Walk.meaning) (λ e. e) result ≡ on_line JoinCause line (join_made (swings order) (L.Walk.meaning left) (R.Walk.meaning right)) }
 {
-    match Join::new(order, left, right) {
-        Ok(joined) => Ok(joined),
-        Err(refused) => Err(PlanFault {
-            cause: Cause::from(refused.fault),
-            line,
-        }),
-    }
+    Join::new(order, left, right).map_err(|refused| PlanFault {
+        cause: Cause::from(refused.fault),
+        line,
+    })
 }
 
 // The second part with the third, then the first with these.

@@ -5,6 +5,7 @@ ghost use Rattle.plan.specs.Format.{blank};
 ghost use Rattle.plan.specs.Numbers.{NumbersLaws};
 
 // The numbers of a text are the decimal numbers below 1000.
+#[tactic(auto, using(crate::proofs::Decimals::numbers_laws))]
 pub fn numbers_stand()
     ensures { NumbersLaws }
 {}

@@ -24,22 +24,15 @@ impl KindName {
     pub fn of(word: &[u8]) -> Option<KindName>
         ensures { result ≡ kind_named word.now }
     {
-        if word == b"digits".as_slice() {
-            Some(KindName::Digits)
-        } else if word == b"gray".as_slice() {
-            Some(KindName::Gray)
-        } else if word == b"choose".as_slice() {
-            Some(KindName::Choose)
-        } else if word == b"door".as_slice() {
-            Some(KindName::Door)
-        } else if word == b"stock".as_slice() {
-            Some(KindName::Stock)
-        } else if word == b"words".as_slice() {
-            Some(KindName::Words)
-        } else if word == b"changes".as_slice() {
-            Some(KindName::Changes)
-        } else {
-            None
+        match word {
+            b"digits" => Some(KindName::Digits),
+            b"gray" => Some(KindName::Gray),
+            b"choose" => Some(KindName::Choose),
+            b"door" => Some(KindName::Door),
+            b"stock" => Some(KindName::Stock),
+            b"words" => Some(KindName::Words),
+            b"changes" => Some(KindName::Changes),
+            _ => None,
         }
     }
 
@@ -47,20 +40,14 @@ impl KindName {
     pub fn takes_t(self) -> bool
         ensures { result ≡ takes_t self }
     {
-        match self {
-            KindName::Choose | KindName::Door | KindName::Stock => true,
-            _ => false,
-        }
+        matches!(self, KindName::Choose | KindName::Door | KindName::Stock)
     }
 
     // Whether the list has numbers, where n is not 0.
     pub fn takes_list(self) -> bool
         ensures { result ≡ takes_list self }
     {
-        match self {
-            KindName::Choose | KindName::Door | KindName::Changes => false,
-            _ => true,
-        }
+        !matches!(self, KindName::Choose | KindName::Door | KindName::Changes)
     }
 
     // Makes the kind.

@@ -6,12 +6,13 @@ fn digit(b: u8) -> Option<u16>
     ensures { result ≡ digit_value b }
 {
     match b {
-        b'0'..=b'9' => Some((b - b'0') as u16),
+        b'0'..=b'9' => Some(u16::from(b - b'0')),
         _ => None,
     }
 }
 
-// A number of one, two or three digits. Only 0 itself begins with a 0.
+// A number of one, two or three digits. Only 0 itself begins with a 0. The format wants the bytes matched as a slice of so
+// many.
 pub fn number(bytes: &[u8]) -> Option<u16>
     ensures { result ≡ number_value bytes.now }
 {

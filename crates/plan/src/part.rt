@@ -1,9 +1,9 @@
 // What a part asks for.
-ghost use Rattle.std.specs.Prelude.{◌≡◌, not, ◌&&◌};
+ghost use Rattle.std.specs.Prelude.{◌≡◌, not, ◌&&◌, ◌==◌};
 ghost use Rattle.std.specs.Option.{option_map};
 ghost use Rattle.kinds.specs.Kinds.{kind_meaning};
 ghost use Rattle.text.specs.Coming.{coming};
-ghost use Rattle.plan.specs.Format.{t_value, entries, head_of_line, head_made};
+ghost use Rattle.plan.specs.Format.{takes_t, takes_list, t_value, entries, head_of_line, head_made};
 ghost use Rattle.plan.specs.Reading.{head_read, MakesPart};
 
 use crate::field::Field;
@@ -23,27 +23,25 @@ pub struct Head<'a> {
     pub entries: Pieces<'a>,
 }
 
-fn t_number(taken: bool, t: &[u8]) -> Option<u16>
-    ensures { result ≡ t_value taken t.now }
+// The field t, which is 0 where the kind takes none.
+fn t_number(kind: KindName, t: &[u8]) -> Option<u16>
+    ensures { result ≡ t_value (takes_t kind) t.now }
 {
-    if taken {
+    if kind.takes_t() {
         number(t)
-    } else if t == b"-".as_slice() {
-        Some(0)
     } else {
-        None
+        (t == b"-".as_slice()).then_some(0)
     }
 }
 
-fn list_entries(taken: bool, list: &[u8]) -> Option<Pieces<'_>>
-    ensures { option_map coming result ≡ entries taken list.now }
+// The entries of the list, which are none where the kind takes none or n is 0.
+fn list_entries(kind: KindName, n: u16, list: &[u8]) -> Option<Pieces<'_>>
+    ensures { option_map coming result ≡ entries (takes_list kind && not (n == 0)) list.now }
 {
-    if taken {
+    if kind.takes_list() && n != 0 {
         Some(Pieces::new(list, b' '))
-    } else if list == b"-".as_slice() {
-        Some(Pieces::none())
     } else {
-        None
+        (list == b"-".as_slice()).then_some(Pieces::none())
     }
 }
 
@@ -55,8 +53,8 @@ impl<'a> Head<'a> {
         let fields = line.fields()?;
         let kind = KindName::of(fields.kind.bytes)?;
         let n = number(fields.n.bytes)?;
-        let t = t_number(kind.takes_t(), fields.t.bytes)?;
-        let entries = list_entries(kind.takes_list() && n != 0, fields.list.bytes)?;
+        let t = t_number(kind, fields.t.bytes)?;
+        let entries = list_entries(kind, n, fields.list.bytes)?;
         Some(Head {
             kind,
             n,
@@ -64,6 +62,7 @@ impl<'a> Head<'a> {
             entries,
         })
     }
+
     // Makes the kind with its list as read.
     pub fn make(self, heap: Global, list: &[u16]) -> Result<Kind, PartFault>
         ensures { MakesPart kind_meaning result (head_made (head_read self.entry) list.now) }

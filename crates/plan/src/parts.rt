@@ -17,44 +17,34 @@ use text::pieces::Pieces;
 use walk::making::MakingFault;
 
 // Makes the parts that stand on line 2 and after, up to the first fault.
-pub(crate) fn make_parts(heap: Global, mut lines: Pieces<'_>) -> Result<Vec<Kind>, PlanFault>
+pub(crate) fn make_parts(heap: Global, lines: Pieces<'_>) -> Result<Vec<Kind>, PlanFault>
     requires few { length (coming lines) ≤ 3 }
     ensures { Gives (λ v. meanings v.items) result (parts_made (coming lines.entry)) }
 {
     let mut made = Vec::new(heap);
-    let mut fault = None;
-    'parts: for line in 2..5 {
-        let Some(bytes) = lines.next() else {
-            break 'parts;
-        };
-        let part = Field { line, bytes };
-        let Some(head) = Head::of(part) else {
-            fault = Some(part.fault(Cause::Part(PartFault::Form)));
-            break 'parts;
-        };
-        let mut list = Vec::new(heap);
-        for piece in head.entries {
-            let Some(x) = number(piece) else {
-                fault = Some(part.fault(Cause::Part(PartFault::Form)));
-                break 'parts;
+    'parts: {
+        for (line, bytes) in (2..5).zip(lines) {
+            let part = Field { line, bytes };
+            let Some(head) = Head::of(part) else {
+                break 'parts Err(part.fault(Cause::Part(PartFault::Form)));
             };
-            list.push(x)?;
-        }
-        match head.make(heap, &list) {
-            Ok(kind) => made.push(kind)?,
-            Err(e) => {
-                fault = Some(part.fault(Cause::from(e)));
-                break 'parts;
+            let mut list = Vec::new(heap);
+            for piece in head.entries {
+                let Some(x) = number(piece) else {
+                    break 'parts Err(part.fault(Cause::Part(PartFault::Form)));
+                };
+                list.push(x)?;
+            }
+            match head.make(heap, &list) {
+                Ok(kind) => made.push(kind)?,
+                Err(e) => break 'parts Err(part.fault(Cause::from(e))),
             }
         }
-    }
-    match fault {
-        Some(fault) => Err(fault),
-        None => Ok(made),
+        Ok(made)
     }
 }
 
-// The part, or where there is none `gray` with n 0.
+// The part, or where there is none `gray` with n 0. `map_or_else(.., Ok)` would be no plainer.
 pub(crate) fn or_blank(heap: Global, part: Option<Kind>) -> Result<Kind, MakingFault>
     ensures { MatchResult result (λ k. kind_meaning k ≡ unwrap_or (option_map kind_meaning part) blank) (λ e. e ≡ NoMemory) }
 {

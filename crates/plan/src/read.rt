@@ -17,12 +17,10 @@ pub type Plan = Join<Kind, Join<Kind, Kind>>;
 pub fn read(heap: Global, text: &[u8]) -> Result<Plan, PlanFault>
     ensures { Gives plan_meaning result (plan_of text.now) }
 {
-    let Some(lines) = Lines::of(text) else {
-        return Err(PlanFault {
-            cause: Cause::Text,
-            line: 0,
-        });
-    };
+    let lines = Lines::of(text).ok_or(PlanFault {
+        cause: Cause::Text,
+        line: 0,
+    })?;
     if lines.names.bytes != b"kind,n,t,list".as_slice() {
         return Err(lines.names.fault(Cause::Names));
     }

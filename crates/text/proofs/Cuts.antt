@@ -1,27 +1,36 @@
 -- The pieces of a list by its first byte of the kind that is looked for. Assumes nothing.
-use Rattle.std.proofs.Common.{◌≡◌, ℕ, zero, suc, ◌<◌, List, [], ◌∷◌, length, get_or, take, drop, sym, refl, ap, ◌∙◌, subst, ⊎_elim, arith, eq-eqb, ne_eqb}
-use Rattle.std.proofs.lemmas.Bool.{cases_eq, cond-true, cond-false}
+use Rattle.std.proofs.Common.{◌≡◌, ◌-◌, false, ◌+◌, Some, None, eqb, position, ℕ, zero, suc, ◌<◌, List, [], ◌∷◌, length, get_or, take, drop, sym, refl, ap, ◌∙◌, subst, ⊎_elim, arith, eq-eqb, ne_eqb, add-one, eqb-true}
+use Rattle.std.proofs.lemmas.Bool.{cases_Bool, cases_eq, cond-true, cond-false}
+use Rattle.std.proofs.lemmas.List.{take_rest}
+use Rattle.std.proofs.lemmas.List.Quantifiers.{position-Some}
+use Rattle.std.proofs.lemmas.Iterator.Adapters.{position_from-zero}
 use Rattle.std.specs.Str.Iter.{LacksByte}
-use Rattle.std.specs.List.{join_with_byte, AllByRecursion}
+use Rattle.std.specs.List.{position_from, join_with_byte, AllByRecursion}
 use Rattle.text.specs.Pieces.{grown, pieces, PiecesLaws}
 
--- none of the first n bytes is `at`
-abbrev pub Without : ℕ → List ℕ → ℕ → Type 0
-Without at bs n = (k : ℕ) → k < n → get_or bs k 0 ≡ at → ⊥
+-- the first byte that is looked for ends the first piece
+first_cut : (at : ℕ) (bs : List ℕ) (i : ℕ) → i < length bs → get_or bs i 0 ≡ at → ((k : ℕ) → k < i → eqb (get_or bs k 0) at ≡ false) → pieces at bs ≡ take i bs ∷ pieces at (drop (suc i) bs)
+first_cut at [] i inside here before = absurd (omega arith)
+first_cut at (b ∷ bs) zero inside here before = cond-true _ _ _ (eq-eqb b at here)
+first_cut at (b ∷ bs) (suc i) inside here before =
+    cond-false _ _ _ (before 0 (omega arith)) ∙ ap (grown b) (first_cut at bs i (omega arith) here (λ k h. before (suc k) (omega arith)))
 
--- a list without the byte is one piece
-pub pieces_whole : (at : ℕ) (bs : List ℕ) → Without at bs (length bs) → pieces at bs ≡ bs ∷ []
-pieces_whole at [] none = refl
-pieces_whole at (b ∷ bs) none =
-    cond-false _ _ _ (ne_eqb b at (none 0 (omega arith))) ∙ ap (grown b) (pieces_whole at bs (λ k h. none (suc k) (omega arith)))
+pub pieces_cut : (at : ℕ) (bs : List ℕ) (i : ℕ) → Some i ≡ position (λ b. eqb b at) bs → pieces at bs ≡ take i bs ∷ pieces at (take (length bs - (i + 1)) (drop (i + 1) bs))
+pieces_cut at bs i found =
+    let is = position-Some (λ b. eqb b at) bs i 0 (sym found) in
+    first_cut at bs i is.0 (eqb-true _ _ is.1) is.2 ∙ ap (λ rest. take i bs ∷ pieces at rest) (rw add-one (sym (take_rest bs (suc i))))
 
--- the first such byte ends the first piece
-pub pieces_cut : (at : ℕ) (bs : List ℕ) (i : ℕ) → i < length bs → Without at bs i → get_or bs i 0 ≡ at → pieces at bs ≡ take i bs ∷ pieces at (drop (suc i) bs)
-pieces_cut at [] i inside none here = absurd (omega arith)
-pieces_cut at (b ∷ bs) zero inside none here = cond-true _ _ _ (eq-eqb b at here)
-pieces_cut at (b ∷ bs) (suc i) inside none here =
-    cond-false _ _ _ (ne_eqb b at (none 0 (omega arith)))
-    ∙ ap (grown b) (pieces_cut at bs i (omega arith) (λ k h. none (suc k) (omega arith)) here)
+-- a list without it is one piece
+none_cut : (at : ℕ) (bs : List ℕ) (k : ℕ) → position_from (λ b. eqb b at) k bs ≡ None → pieces at bs ≡ bs ∷ []
+none_cut at [] k none = refl
+none_cut at (b ∷ bs) k none =
+    ⊎_elim
+    (λ hit. absurd (let found : Some k ≡ None = sym (cond-true _ _ _ hit) ∙ none in let never : ◌≡◌ {A = ℕ} 0 1 = cc in omega arith))
+    (λ other. cond-false _ _ _ other ∙ ap (grown b) (none_cut at bs (k + 1) (sym (cond-false _ _ _ other) ∙ none)))
+    (cases_Bool (eqb b at))
+
+pub pieces_whole : (at : ℕ) (bs : List ℕ) → None ≡ position (λ b. eqb b at) bs → pieces at bs ≡ bs ∷ []
+pieces_whole at bs none = none_cut at bs 0 (sym (position_from-zero (λ b. eqb b at) bs) ∙ sym none)
 
 -- a byte before the first piece goes before the whole
 rejoined_grown : (at b : ℕ) (ps : List (List ℕ)) → 0 < length ps → join_with_byte at (grown b ps) ≡ b ∷ join_with_byte at ps

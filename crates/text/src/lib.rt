@@ -1,5 +1,6 @@
-// Texts cut into pieces.
+// Texts: cut into pieces, and read as numbers.
 #![tactic(auto)]
 
+pub mod digits;
 pub mod laws;
 pub mod pieces;

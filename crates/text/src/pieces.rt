@@ -1,10 +1,11 @@
 // The pieces of a text between the occurrences of a byte.
-ghost use Rattle.std.specs.Prelude.{◌≡◌, [], ◌∷◌, length, MatchOption};
+ghost use Rattle.std.specs.Prelude.{◌≡◌, [], ◌∷◌, ◌==◌, length, position, MatchOption};
 ghost use Rattle.text.specs.Pieces.{pieces};
 ghost use Rattle.text.specs.Coming.{coming};
 ghost use Rattle.std.specs.Iterator.{at_most};
 
-// The pieces that are still to come, in order; none after the last.
+// The pieces that are still to come, in order; none after the last. `slice::split` gives them too, but every struct
+// that holds one has the type of its closure as a parameter then.
 #[derive(Clone, Copy)]
 pub struct Pieces<'a> {
     at: u8,
@@ -30,16 +31,11 @@ impl<'a> Pieces<'a> {
     }
 }
 
-// What stands before the first such byte, and what after it.
-fn cut(bytes: &[u8], at: u8) -> Option<(&[u8], &[u8])>
-    ensures { MatchOption result (pieces at bytes.now ≡ bytes.now ∷ []) (λ p. pieces at bytes.now ≡ p.0.now ∷ pieces at p.1.now) }
+// The place of the first such byte.
+fn place(bytes: &[u8], at: u8) -> Option<usize>
+    ensures { result ≡ position (λ b. b == at) bytes.now }
 {
-    for (i, b) in bytes.iter().enumerate() {
-        if *b == at {
-            return Some((&bytes[0..i], &bytes[i + 1..]));
-        }
-    }
-    None
+    bytes.iter().position(|b| *b == at)
 }
 
 impl<'a> Iterator for Pieces<'a> {
@@ -49,12 +45,13 @@ impl<'a> Iterator for Pieces<'a> {
 
     ghost remaining = { λ s. at_most (length (coming s)) };
 
+    #[tactic(auto, using(crate::proofs::Cuts::pieces_cut, crate::proofs::Cuts::pieces_whole))]
     fn next(&mut self) -> Option<&'a [u8]> {
         let bytes = self.rest?;
-        match cut(bytes, self.at) {
-            Some((piece, after)) => {
-                self.rest = Some(after);
-                Some(piece)
+        match place(bytes, self.at) {
+            Some(i) => {
+                self.rest = Some(&bytes[i + 1..]);
+                Some(&bytes[..i])
             }
             None => {
                 self.rest = None;
