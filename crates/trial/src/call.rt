@@ -1,9 +1,10 @@
 // The calls as a line writes them.
 ghost use Rattle.std.specs.Prelude.{◌≡◌, vec_items};
+ghost use Rattle.std.specs.Option.{ok_or};
 ghost use Rattle.text.specs.Coming.{coming};
 ghost use Rattle.trial.specs.Calls.{lone_number, printers_of, print_of, call_of, meant, Reads};
 ghost use Rattle.trial.specs.Calls.{scanned as row_scanned, bare as call_bare};
-ghost use Rattle.trial.specs.declared.call.NoCall.TheVariants.{NoMemory};
+ghost use Rattle.trial.specs.declared.call.NoCall.TheVariants.{Unknown, NoMemory};
 
 use super::number::{number, value};
 use super::verb::Verb;
@@ -37,28 +38,29 @@ impl<T: Drop> From<AllocFailed<T>> for NoCall {
 }
 
 // The number that is the one field to come.
-fn lone_number(mut fields: Pieces<'_>) -> Option<u32>
-    ensures { result ≡ lone_number (coming fields.entry) }
+fn lone_number(mut fields: Pieces<'_>) -> Result<u32, NoCall>
+    ensures { result ≡ ok_or (lone_number (coming fields.entry)) Unknown }
 {
-    let field = fields.next()?;
+    let field = fields.next().ok_or(NoCall::Unknown)?;
     match fields.next() {
-        Some(_) => None,
-        None => number(field),
+        Some(_) => Err(NoCall::Unknown),
+        None => number(field).ok_or(NoCall::Unknown),
     }
 }
 
 // The number of printers, where the line opens a book.
-pub(crate) fn printers(line: &[u8]) -> Option<u32>
-    ensures { result ≡ printers_of line.now }
+pub(crate) fn printers(line: &[u8]) -> Result<u32, NoCall>
+    ensures { result ≡ ok_or (printers_of line.now) Unknown }
 {
     let mut fields = Pieces::new(line, b' ');
-    if fields.next()? != b"open".as_slice() {
-        return None;
+    if fields.next() != Some(b"open".as_slice()) {
+        return Err(NoCall::Unknown);
     }
     lone_number(fields)
 }
 
 // The row of all the values to come.
+#[tactic(auto, using(crate::proofs::Scans::scan_more, crate::proofs::Scans::scan_stops, crate::proofs::Scans::scan_done))]
 fn scanned(heap: Global, fields: Pieces<'_>) -> Result<Vec<u8>, NoCall>
     ensures { Reads vec_items result (row_scanned (coming fields.entry)) }
 {
@@ -73,8 +75,7 @@ fn scanned(heap: Global, fields: Pieces<'_>) -> Result<Vec<u8>, NoCall>
 fn printed(heap: Global, mut fields: Pieces<'_>) -> Result<Call, NoCall>
     ensures { Reads meant result (print_of (coming fields.entry)) }
 {
-    let field = fields.next().ok_or(NoCall::Unknown)?;
-    let printer = number(field).ok_or(NoCall::Unknown)?;
+    let printer = fields.next().and_then(number).ok_or(NoCall::Unknown)?;
     Ok(Call::Printed(printer, scanned(heap, fields)?))
 }
 
@@ -94,13 +95,13 @@ impl Call {
         ensures { Reads meant result (call_of line.now) }
     {
         let mut fields = Pieces::new(line, b' ');
-        let word = fields.next().ok_or(NoCall::Unknown)?;
-        match Verb::of(word).ok_or(NoCall::Unknown)? {
-            Verb::Take => Ok(Call::Take(lone_number(fields).ok_or(NoCall::Unknown)?)),
+        let verb = fields.next().and_then(Verb::of);
+        match verb.ok_or(NoCall::Unknown)? {
+            Verb::Take => lone_number(fields).map(Call::Take),
             Verb::Printed => printed(heap, fields),
-            Verb::Spoiled => Ok(Call::Spoiled(lone_number(fields).ok_or(NoCall::Unknown)?)),
-            Verb::Row => Ok(Call::Row(lone_number(fields).ok_or(NoCall::Unknown)?)),
-            Verb::Label => Ok(Call::Label(scanned(heap, fields)?)),
+            Verb::Spoiled => lone_number(fields).map(Call::Spoiled),
+            Verb::Row => lone_number(fields).map(Call::Row),
+            Verb::Label => scanned(heap, fields).map(Call::Label),
             Verb::Counts => bare(Call::Counts, fields),
             Verb::Close => bare(Call::Close, fields),
         }
