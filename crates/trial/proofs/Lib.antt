@@ -1,4 +1,5 @@
 pub mod Decimals
 pub mod Openings
 pub mod Scans
+pub mod Spelling
 pub mod Texts

@@ -41,10 +41,9 @@ impl<T: Drop> From<AllocFailed<T>> for NoCall {
 fn lone_number(mut fields: Pieces<'_>) -> Result<u32, NoCall>
     ensures { result ≡ ok_or (lone_number (coming fields.entry)) Unknown }
 {
-    let field = fields.next().ok_or(NoCall::Unknown)?;
-    match fields.next() {
-        Some(_) => Err(NoCall::Unknown),
-        None => number(field).ok_or(NoCall::Unknown),
+    match (fields.next(), fields.next()) {
+        (Some(field), None) => number(field).ok_or(NoCall::Unknown),
+        _ => Err(NoCall::Unknown),
     }
 }
 
