@@ -1,5 +1,4 @@
 pub mod Decimals
 pub mod Openings
 pub mod Scans
-pub mod Spelling
 pub mod Texts

@@ -16,7 +16,6 @@ use walk::Walk;
 
 // Opens a book as the line says, and appends what that and the lines behind it give.
 fn push_trial<W: Walk + Drop>(
-    heap: Global,
     out: &mut Vec<u8>,
     walk: W,
     opening: &[u8],
@@ -24,6 +23,7 @@ fn push_trial<W: Walk + Drop>(
 ) -> Result<(), AllocError>
     ensures { OnOk result (out.new.items ≡ out.old.items ++ trial_text (W.Walk.meaning walk) opening.now (printers_of opening.now) (coming lines.entry)) }
 {
+    let heap = *out.allocator();
     let rows = walk.size();
     let width = walk.width();
     let Ok(printers) = printers(opening) else {
@@ -52,7 +52,7 @@ pub(crate) fn run<W: Walk + Drop>(
     let mut out = Vec::from_slice(heap, b"call,answer,row\n")?;
     let mut lines = Pieces::new(calls, b'\n');
     if let Some(opening @ [_, ..]) = lines.next() {
-        push_trial(heap, &mut out, walk, opening, lines)?;
+        push_trial(&mut out, walk, opening, lines)?;
     }
     Ok(out)
 }
