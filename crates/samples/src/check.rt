@@ -14,11 +14,10 @@ fn row_of(heap: Global, values: &[u8]) -> Result<Option<Vec<u8>>, AllocError> {
         return Ok(Some(row));
     }
     for value in Pieces::new(values, b' ') {
-        let value = decimal(value).and_then(|value| u8::try_from(value).ok());
-        let Some(value) = value.filter(|_| row.len() < MOST) else {
-            return Ok(None);
-        };
-        row.push(value)?;
+        match decimal(value).and_then(|value| u8::try_from(value).ok()) {
+            Some(value) if row.len() < MOST => row.push(value)?,
+            _ => return Ok(None),
+        }
     }
     Ok(Some(row))
 }

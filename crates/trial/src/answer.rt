@@ -79,7 +79,7 @@ pub(crate) fn push_answer(out: &mut Vec<u8>, line: &[u8], answer: &Answer) -> Re
 {
     let mut text = format!(in *out.allocator(); ",{answer},")?;
     push_row(&mut text, answer.row())?;
-    text.push_str("\n")?;
+    text.push('\n')?;
     out.extend_from_slice(line)?;
     out.extend_from_slice(text.as_bytes())?;
     Ok(())
