@@ -23,11 +23,9 @@ fn main(rt: HostRuntime) -> io::Result<()> {
     let mut all = Vec::new(heap);
     rt.stdin().read_to_end(&mut all)?;
     let mut tally = Tally::default();
-    let mut number: u32 = 0;
-    for line in Pieces::new(&all, b'\n') {
-        number = number.saturating_add(1);
+    for (i, line) in Pieces::new(&all, b'\n').enumerate() {
         if !line.is_empty() && !run(heap, line, &mut tally)? {
-            println!(rt; "line {number}: not as expected")?;
+            println!(rt; "line {}: not as expected", i + 1)?;
         }
     }
     println!(rt; "{tally}")

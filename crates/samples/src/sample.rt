@@ -8,15 +8,14 @@ use text::pieces::Pieces;
 
 // The text that a sample writes with `~` for the byte 10 and `^` for the byte 200.
 fn unescaped(heap: Global, sample: &[u8]) -> Result<Vec<u8>, AllocError> {
-    let mut text = Vec::new(heap);
-    for byte in sample {
-        text.push(match *byte {
+    sample
+        .iter()
+        .map(|byte| match *byte {
             b'~' => b'\n',
             b'^' => 200,
             other => other,
-        })?;
-    }
-    Ok(text)
+        })
+        .collect(heap)
 }
 
 // Whether what the lister writes is the fault.
@@ -37,25 +36,21 @@ fn report_is(heap: Global, text: &[u8], expected: &[u8]) -> Result<bool, AllocEr
 pub fn run(heap: Global, line: &[u8], tally: &mut Tally) -> Result<bool, AllocError> {
     let mut claims = Pieces::new(line, b'|');
     let text = unescaped(heap, claims.next().unwrap_or(b""))?;
-    match read(heap, &text) {
-        Ok(mut walk) => {
-            tally.plans = tally.plans.saturating_add(1);
-            for claim in claims {
-                let good = match claim.strip_prefix(b"report:") {
-                    Some(expected) => report_is(heap, &text, expected)?,
-                    None => holds(&mut walk, claim),
-                };
-                if !good {
-                    return Ok(false);
-                }
-                tally.claims = tally.claims.saturating_add(1);
-            }
-            Ok(true)
+    let Ok(mut walk) = read(heap, &text) else {
+        tally.faults = tally.faults.saturating_add(1);
+        let told = report(heap, &text)?;
+        return Ok(fault_is(told.as_bytes(), claims.next().unwrap_or(b"")));
+    };
+    tally.plans = tally.plans.saturating_add(1);
+    for claim in claims {
+        let good = match claim.strip_prefix(b"report:") {
+            Some(expected) => report_is(heap, &text, expected)?,
+            None => holds(heap, &mut walk, claim)?,
+        };
+        if !good {
+            return Ok(false);
         }
-        Err(_) => {
-            tally.faults = tally.faults.saturating_add(1);
-            let told = report(heap, &text)?;
-            Ok(fault_is(told.as_bytes(), claims.next().unwrap_or(b"")))
-        }
+        tally.claims = tally.claims.saturating_add(1);
     }
+    Ok(true)
 }

@@ -10,9 +10,11 @@ pub struct Tally {
 
 impl fmt::Display for Tally {
     fn fmt<W: fmt::Write>(&self, f: &mut fmt::Formatter<W>) -> fmt::Result {
-        let plans = self.plans;
-        let claims = self.claims;
-        let faults = self.faults;
+        let Tally {
+            plans,
+            claims,
+            faults,
+        } = self;
         write!(f, "{plans} plans with {claims} claims, {faults} faults")
     }
 }

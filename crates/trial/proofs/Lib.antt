@@ -2,4 +2,3 @@ pub mod Decimals
 pub mod Openings
 pub mod Scans
 pub mod Texts
-pub mod Values

@@ -1,10 +1,14 @@
-// What is answered to a call, and how it is written.
-ghost use Rattle.std.specs.Prelude.{◌≡◌, IfOk, string_bytes};
-ghost use Rattle.trial.specs.Answers.{number_text, counts_text, shown_text, answer_text};
+// What is answered to a line, and how it is written.
+ghost use Rattle.std.specs.Prelude.{◌≡◌, ◌++◌, Some, OnOk};
+ghost use Rattle.book.specs.Histories.{numbered as number_answer};
+ghost use Rattle.trial.specs.Answers.{said, row_shown, answer_text, told};
+ghost use Rattle.trial.specs.Lines.{line_text};
 
 use book::counts::Counts;
+use book::refusal::{BookRefusal, OpeningFault};
 use listing::push_row;
-use std::alloc::{AllocError, Global};
+use std::alloc::AllocError;
+use std::fmt;
 
 #[derive(Drop)]
 pub(crate) enum Answer {
@@ -13,50 +17,70 @@ pub(crate) enum Answer {
     // a label and its row
     Shown(u32, Vec<u8>),
     Counted(Counts),
-    // the number of a refusal
-    Refused(u8),
+    Refused(BookRefusal),
+    NotOpened(OpeningFault),
     // the line is no call
     Unknown,
 }
 
-// A number, a comma.
-fn number_text(heap: Global, number: u32) -> Result<String, AllocError>
-    ensures { IfOk result (λ s. string_bytes s ≡ number_text number) }
-{
-    format!(in heap; "{number},")
+impl From<Result<u32, BookRefusal>> for Answer {
+    ghost from_gives = { λ res answer. answer_text answer ≡ told 0 (number_answer res) };
+
+    fn from(res: Result<u32, BookRefusal>) -> Answer {
+        match res {
+            Ok(number) => Answer::Number(number),
+            Err(refusal) => Answer::Refused(refusal),
+        }
+    }
 }
 
-// The four counts, with one blank between neighbours.
-fn counts_text(heap: Global, counts: Counts) -> Result<String, AllocError>
-    ensures { IfOk result (λ s. string_bytes s ≡ counts_text counts) }
-{
-    let bench = counts.bench;
-    let hands = counts.hands;
-    let waiting = counts.waiting;
-    let undrawn = counts.undrawn;
-    format!(in heap; "{bench} {hands} {waiting} {undrawn},")
-}
+// The answer without its row. Want of memory is no answer.
+impl fmt::Display for Answer {
+    ghost output = { λ answer. Some (said answer) };
 
-// A label, a comma, the row.
-fn shown_text(heap: Global, label: u32, row: &[u8]) -> Result<String, AllocError>
-    ensures { IfOk result (λ s. string_bytes s ≡ shown_text label row.now) }
-{
-    let mut text = number_text(heap, label)?;
-    push_row(heap, &mut text, row)?;
-    Ok(text)
+    fn fmt<W: fmt::Write>(&self, f: &mut fmt::Formatter<W>) -> fmt::Result {
+        match self {
+            Answer::Number(number) | Answer::Shown(number, _) => write!(f, "{number}"),
+            Answer::Counted(counts) => {
+                let Counts {
+                    bench,
+                    hands,
+                    waiting,
+                    undrawn,
+                } = counts;
+                write!(f, "{bench} {hands} {waiting} {undrawn}")
+            }
+            Answer::Refused(refusal) => write!(f, "refused {}", refusal.number()),
+            Answer::NotOpened(fault) => match fault.number() {
+                Some(number) => write!(f, "refused {number}"),
+                None => Ok(()),
+            },
+            Answer::Unknown => f.write_str("unknown"),
+        }
+    }
 }
 
 impl Answer {
-    // The answer, a comma, and the row where there is one.
-    pub(crate) fn text(&self, heap: Global) -> Result<String, AllocError>
-        ensures { IfOk result (λ s. string_bytes s ≡ answer_text self.now) }
+    // The row that is shown, or the row of no values.
+    fn row(&self) -> &[u8]
+        ensures { result.now ≡ row_shown self.now }
     {
         match self {
-            Answer::Number(number) => number_text(heap, *number),
-            Answer::Shown(label, row) => shown_text(heap, *label, row),
-            Answer::Counted(counts) => counts_text(heap, *counts),
-            Answer::Refused(number) => format!(in heap; "refused {number},"),
-            Answer::Unknown => String::from_str(heap, "unknown,"),
+            Answer::Shown(_, row) => row,
+            _ => &[],
         }
     }
+}
+
+// Appends a line with its answer.
+#[tactic(auto, using(crate::proofs::Texts::line_pushed))]
+pub(crate) fn push_answer(out: &mut Vec<u8>, line: &[u8], answer: &Answer) -> Result<(), AllocError>
+    ensures { OnOk result (out.new.items ≡ out.old.items ++ line_text line.now (answer_text answer.now)) }
+{
+    let mut text = format!(in *out.allocator(); ",{answer},")?;
+    push_row(&mut text, answer.row())?;
+    text.push('\n')?;
+    out.extend_from_slice(line)?;
+    out.extend_from_slice(text.as_bytes())?;
+    Ok(())
 }

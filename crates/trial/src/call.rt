@@ -1,13 +1,14 @@
 // The calls as a line writes them.
 ghost use Rattle.std.specs.Prelude.{◌≡◌, vec_items};
+ghost use Rattle.std.specs.Option.{ok_or};
 ghost use Rattle.text.specs.Coming.{coming};
 ghost use Rattle.trial.specs.Calls.{lone_number, printers_of, print_of, call_of, meant, Reads};
 ghost use Rattle.trial.specs.Calls.{scanned as row_scanned, bare as call_bare};
-ghost use Rattle.trial.specs.declared.call.NoCall.TheVariants.{NoMemory};
+ghost use Rattle.trial.specs.declared.call.NoCall.TheVariants.{Unknown, NoMemory};
 
 use super::number::{number, value};
 use super::verb::Verb;
-use std::alloc::{AllocFailed, Global};
+use std::alloc::{AllocError, Global};
 use text::pieces::Pieces;
 
 #[derive(Drop)]
@@ -28,32 +29,31 @@ pub(crate) enum NoCall {
     NoMemory,
 }
 
-impl<T: Drop> From<AllocFailed<T>> for NoCall {
+impl From<AllocError> for NoCall {
     ghost from_gives = { λ _ r. r ≡ NoMemory };
 
-    fn from(_e: AllocFailed<T>) -> NoCall {
+    fn from(_e: AllocError) -> NoCall {
         NoCall::NoMemory
     }
 }
 
 // The number that is the one field to come.
-fn lone_number(mut fields: Pieces<'_>) -> Option<u32>
-    ensures { result ≡ lone_number (coming fields.entry) }
+fn lone_number(mut fields: Pieces<'_>) -> Result<u32, NoCall>
+    ensures { result ≡ ok_or (lone_number (coming fields.entry)) Unknown }
 {
-    let field = fields.next()?;
-    match fields.next() {
-        Some(_) => None,
-        None => number(field),
+    match (fields.next(), fields.next()) {
+        (Some(field), None) => number(field).ok_or(NoCall::Unknown),
+        _ => Err(NoCall::Unknown),
     }
 }
 
 // The number of printers, where the line opens a book.
-pub(crate) fn printers(line: &[u8]) -> Option<u32>
-    ensures { result ≡ printers_of line.now }
+pub(crate) fn printers(line: &[u8]) -> Result<u32, NoCall>
+    ensures { result ≡ ok_or (printers_of line.now) Unknown }
 {
     let mut fields = Pieces::new(line, b' ');
-    if fields.next()? != b"open".as_slice() {
-        return None;
+    if fields.next() != Some(b"open".as_slice()) {
+        return Err(NoCall::Unknown);
     }
     lone_number(fields)
 }
@@ -62,19 +62,16 @@ pub(crate) fn printers(line: &[u8]) -> Option<u32>
 fn scanned(heap: Global, fields: Pieces<'_>) -> Result<Vec<u8>, NoCall>
     ensures { Reads vec_items result (row_scanned (coming fields.entry)) }
 {
-    let mut row = Vec::new(heap);
-    for field in fields {
-        row.push(value(field).ok_or(NoCall::Unknown)?)?;
-    }
-    Ok(row)
+    fields
+        .map(|field| value(field).ok_or(NoCall::Unknown))
+        .try_collect(heap)
 }
 
 // A printer, and the row of the values behind it.
 fn printed(heap: Global, mut fields: Pieces<'_>) -> Result<Call, NoCall>
     ensures { Reads meant result (print_of (coming fields.entry)) }
 {
-    let field = fields.next().ok_or(NoCall::Unknown)?;
-    let printer = number(field).ok_or(NoCall::Unknown)?;
+    let printer = fields.next().and_then(number).ok_or(NoCall::Unknown)?;
     Ok(Call::Printed(printer, scanned(heap, fields)?))
 }
 
@@ -94,13 +91,13 @@ impl Call {
         ensures { Reads meant result (call_of line.now) }
     {
         let mut fields = Pieces::new(line, b' ');
-        let word = fields.next().ok_or(NoCall::Unknown)?;
-        match Verb::of(word).ok_or(NoCall::Unknown)? {
-            Verb::Take => Ok(Call::Take(lone_number(fields).ok_or(NoCall::Unknown)?)),
+        let verb = fields.next().and_then(Verb::of);
+        match verb.ok_or(NoCall::Unknown)? {
+            Verb::Take => lone_number(fields).map(Call::Take),
             Verb::Printed => printed(heap, fields),
-            Verb::Spoiled => Ok(Call::Spoiled(lone_number(fields).ok_or(NoCall::Unknown)?)),
-            Verb::Row => Ok(Call::Row(lone_number(fields).ok_or(NoCall::Unknown)?)),
-            Verb::Label => Ok(Call::Label(scanned(heap, fields)?)),
+            Verb::Spoiled => lone_number(fields).map(Call::Spoiled),
+            Verb::Row => lone_number(fields).map(Call::Row),
+            Verb::Label => scanned(heap, fields).map(Call::Label),
             Verb::Counts => bare(Call::Counts, fields),
             Verb::Close => bare(Call::Close, fields),
         }

@@ -6,8 +6,8 @@ mod answer;
 mod call;
 mod day;
 mod number;
-mod perform;
 mod run;
+mod session;
 mod verb;
 
 use day::written;

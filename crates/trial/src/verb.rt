@@ -18,22 +18,15 @@ impl Verb {
     pub(crate) fn of(word: &[u8]) -> Option<Verb>
         ensures { result ≡ verb_of word.now }
     {
-        if word == b"take".as_slice() {
-            Some(Verb::Take)
-        } else if word == b"printed".as_slice() {
-            Some(Verb::Printed)
-        } else if word == b"spoiled".as_slice() {
-            Some(Verb::Spoiled)
-        } else if word == b"row".as_slice() {
-            Some(Verb::Row)
-        } else if word == b"label".as_slice() {
-            Some(Verb::Label)
-        } else if word == b"counts".as_slice() {
-            Some(Verb::Counts)
-        } else if word == b"close".as_slice() {
-            Some(Verb::Close)
-        } else {
-            None
+        match word {
+            b"take" => Some(Verb::Take),
+            b"printed" => Some(Verb::Printed),
+            b"spoiled" => Some(Verb::Spoiled),
+            b"row" => Some(Verb::Row),
+            b"label" => Some(Verb::Label),
+            b"counts" => Some(Verb::Counts),
+            b"close" => Some(Verb::Close),
+            _ => None,
         }
     }
 }

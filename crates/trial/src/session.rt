@@ -1,0 +1,118 @@
+// Calls, made on a book that was opened.
+ghost use Rattle.std.specs.Prelude.{◌≡◌, ◌++◌, take, vec_items, IfOk, OnOk};
+ghost use Rattle.text.specs.Coming.{coming};
+ghost use Rattle.book.specs.Histories.{answer, after, showing};
+ghost use Rattle.book.specs.State.{state};
+ghost use Rattle.trial.specs.Answers.{answer_text, told};
+ghost use Rattle.trial.specs.Calls.{call_of, meant, tray as blank_tray};
+ghost use Rattle.trial.specs.Lines.{left_by, written, after_line, lines_text};
+ghost use Rattle.trial.specs.Lines.{answered as line_answered};
+
+use super::answer::{Answer, push_answer};
+use super::call::{Call, NoCall};
+use book::book::Book;
+use book::refusal::BookRefusal;
+use std::alloc::{AllocError, Global};
+use text::pieces::Pieces;
+use walk::Walk;
+
+#[derive(Drop)]
+pub(crate) struct Session<W> {
+    pub(crate) heap: Global,
+    pub(crate) book: Book<W>,
+    // the width of the book's rows
+    pub(crate) width: usize,
+}
+
+impl<W> Session<W> {
+    // A tray as long as the longest row of any walk.
+    fn tray(&self) -> Result<Vec<u8>, AllocError>
+        ensures { IfOk result (λ tray. vec_items tray ≡ blank_tray) }
+    {
+        vec![in self.heap; 0; 64]
+    }
+
+    // A label with its row, which stands at the front of the tray, or why there is none.
+    fn showing(&self, res: Result<u32, BookRefusal>, mut tray: Vec<u8>) -> Answer
+        ensures { answer_text result ≡ told self.now.width (showing res tray.items) }
+    {
+        match res {
+            Ok(label) => {
+                tray.truncate(self.width);
+                Answer::Shown(label, tray)
+            }
+            Err(refusal) => Answer::Refused(refusal),
+        }
+    }
+}
+
+impl<W: Walk> Session<W> {
+    // Makes the call on the book.
+    fn perform(&mut self, call: &Call) -> Result<Answer, AllocError>
+        ensures answer { IfOk result (λ a. answer_text a ≡ told self.old.width (answer (state W.Walk.meaning self.old.book) (meant call.now))) }
+        ensures after { OnOk result (state W.Walk.meaning self.new.book ≡ after (state W.Walk.meaning self.old.book) (meant call.now)) }
+        ensures width { self.new.width ≡ self.old.width }
+    {
+        match call {
+            Call::Take(printer) => {
+                let mut tray = self.tray()?;
+                let taken = self.book.take(*printer as usize, &mut tray);
+                Ok(self.showing(taken, tray))
+            }
+            Call::Printed(printer, row) => Ok(self.book.printed(*printer as usize, row).into()),
+            Call::Spoiled(printer) => Ok(self.book.spoiled(*printer as usize).into()),
+            Call::Row(label) => {
+                let mut tray = self.tray()?;
+                let found = self.book.row(*label, &mut tray);
+                Ok(self.showing(found, tray))
+            }
+            Call::Label(row) => Ok(self.book.label(row).into()),
+            Call::Counts => Ok(Answer::Counted(self.book.counts())),
+            Call::Close => Ok(self.book.close().into()),
+        }
+    }
+
+    // What is answered to a line.
+    fn answered(&mut self, line: &[u8]) -> Result<Answer, AllocError>
+        ensures answer { IfOk result (λ a. answer_text a ≡ line_answered self.old.width (state W.Walk.meaning self.old.book) (call_of line.now)) }
+        ensures after { OnOk result (state W.Walk.meaning self.new.book ≡ left_by (state W.Walk.meaning self.old.book) (call_of line.now)) }
+        ensures width { self.new.width ≡ self.old.width }
+    {
+        match Call::of(self.heap, line) {
+            Ok(call) => self.perform(&call),
+            Err(NoCall::Unknown) => Ok(Answer::Unknown),
+            Err(NoCall::NoMemory) => Err(AllocError),
+        }
+    }
+
+    // Appends what a line gives: a comment is written as it is, and a call with its answer.
+    fn push_line(&mut self, out: &mut Vec<u8>, line: &[u8]) -> Result<(), AllocError>
+        ensures text { OnOk result (out.new.items ≡ out.old.items ++ written self.old.width (state W.Walk.meaning self.old.book) line.now) }
+        ensures after { OnOk result (state W.Walk.meaning self.new.book ≡ after_line (state W.Walk.meaning self.old.book) line.now) }
+        ensures width { self.new.width ≡ self.old.width }
+    {
+        match line {
+            [] => {}
+            [b'#', ..] => {
+                out.extend_from_slice(line)?;
+                out.push(b'\n')?;
+            }
+            _ => push_answer(out, line, &self.answered(line)?)?,
+        }
+        Ok(())
+    }
+
+    // Appends what the lines give, from the first call to the last.
+    pub(crate) fn push_lines(
+        &mut self,
+        out: &mut Vec<u8>,
+        lines: Pieces<'_>,
+    ) -> Result<(), AllocError>
+        ensures { OnOk result (out.new.items ≡ out.old.items ++ lines_text self.old.width (state W.Walk.meaning self.old.book) (coming lines.entry)) }
+    {
+        for line in lines {
+            self.push_line(out, line)?;
+        }
+        Ok(())
+    }
+}
