@@ -1,5 +1,6 @@
-// Texts cut into pieces.
+// Texts cut into pieces, and words that name something.
 #![tactic(auto)]
 
 pub mod laws;
+pub mod named;
 pub mod pieces;
