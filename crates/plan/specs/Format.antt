@@ -21,6 +21,7 @@ use Rattle.faults.specs.declared.PlanFault.{PlanFault}
 use Rattle.plan.specs.declared.name.KindName.{KindName}
 use Rattle.plan.specs.declared.name.KindName.TheVariants.{Digits, Gray, Choose, Door, Stock, Words, Changes}
 use Rattle.plan.specs.Numbers.{number_value}
+use Rattle.text.specs.Named.{named_among}
 use Rattle.text.specs.Pieces.{pieces}
 
 -- what f makes of the value, where there is one
@@ -100,12 +101,8 @@ word_of Stock = codes "stock"
 word_of Words = codes "words"
 word_of Changes = codes "changes"
 
-abbrev pub named_among : List KindName → List ℕ → Option KindName
-named_among [] word = None
-named_among (kind ∷ kinds) word = cond (bytes_eq word (word_of kind)) (Some kind) (named_among kinds word)
-
 abbrev pub kind_named : List ℕ → Option KindName
-kind_named word = named_among (Digits ∷ Gray ∷ Choose ∷ Door ∷ Stock ∷ Words ∷ Changes ∷ []) word
+kind_named word = named_among word_of (Digits ∷ Gray ∷ Choose ∷ Door ∷ Stock ∷ Words ∷ Changes ∷ []) word
 
 abbrev pub takes_t : KindName → Bool
 takes_t Digits = false

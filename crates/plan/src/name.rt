@@ -2,10 +2,11 @@
 ghost use Rattle.std.specs.Prelude.{◌≡◌};
 ghost use Rattle.walk.specs.Making.{Makes};
 ghost use Rattle.kinds.specs.Kinds.{kind_meaning};
-ghost use Rattle.plan.specs.Format.{kind_named, takes_t, takes_list, kind_made};
+ghost use Rattle.plan.specs.Format.{word_of, kind_named, takes_t, takes_list, kind_made};
 
 use kinds::kind::Kind;
 use std::alloc::Global;
+use text::named::{Named, named_among};
 use walk::making::MakingFault;
 
 #[derive(Clone, Copy, PartialEq, Eq, Debug)]
@@ -19,21 +20,38 @@ pub enum KindName {
     Changes,
 }
 
+impl Named for KindName {
+    ghost word_of = { word_of };
+
+    fn word(self) -> &'static [u8] {
+        match self {
+            KindName::Digits => b"digits",
+            KindName::Gray => b"gray",
+            KindName::Choose => b"choose",
+            KindName::Door => b"door",
+            KindName::Stock => b"stock",
+            KindName::Words => b"words",
+            KindName::Changes => b"changes",
+        }
+    }
+}
+
 impl KindName {
+    const ALL: [KindName; 7] = [
+        KindName::Digits,
+        KindName::Gray,
+        KindName::Choose,
+        KindName::Door,
+        KindName::Stock,
+        KindName::Words,
+        KindName::Changes,
+    ];
+
     // The kind that the word names.
     pub fn of(word: &[u8]) -> Option<KindName>
         ensures { result ≡ kind_named word.now }
     {
-        match word {
-            b"digits" => Some(KindName::Digits),
-            b"gray" => Some(KindName::Gray),
-            b"choose" => Some(KindName::Choose),
-            b"door" => Some(KindName::Door),
-            b"stock" => Some(KindName::Stock),
-            b"words" => Some(KindName::Words),
-            b"changes" => Some(KindName::Changes),
-            _ => None,
-        }
+        named_among(&KindName::ALL, word)
     }
 
     // Whether t is a number.

@@ -1,3 +1,4 @@
 pub mod Coming
 pub mod Digits
 pub mod Pieces
+pub mod Named

@@ -4,6 +4,7 @@ use Rattle.std.specs.Option.{option_map}
 use Rattle.std.specs.Str.{bytes_eq}
 use Rattle.walk.specs.Rows.{Row}
 use Rattle.plan.specs.Format.{and_then, provided}
+use Rattle.text.specs.Named.{named_among}
 use Rattle.text.specs.Pieces.{pieces}
 use Rattle.book.specs.Histories.{Call}
 use Rattle.book.specs.Histories as book
@@ -30,12 +31,8 @@ word_of verb.Label = codes "label"
 word_of verb.Counts = codes "counts"
 word_of verb.Close = codes "close"
 
-abbrev pub verb_among : List Verb → List ℕ → Option Verb
-verb_among [] word = None
-verb_among (v ∷ vs) word = cond (bytes_eq word (word_of v)) (Some v) (verb_among vs word)
-
 abbrev pub verb_of : List ℕ → Option Verb
-verb_of word = verb_among (verb.Take ∷ verb.Printed ∷ verb.Spoiled ∷ verb.Row ∷ verb.Label ∷ verb.Counts ∷ verb.Close ∷ []) word
+verb_of word = named_among word_of (verb.Take ∷ verb.Printed ∷ verb.Spoiled ∷ verb.Row ∷ verb.Label ∷ verb.Counts ∷ verb.Close ∷ []) word
 
 -- Fields
 
