@@ -1,5 +1,5 @@
 -- The calls as a line writes them: a word, and then fields, with one blank (byte 32) between neighbours. Assumes nothing.
-use Rattle.std.specs.Prelude.{◌≡◌, ℕ, cond, List, [], ◌∷◌, replicate, Some, None, Ok, Err, vec_items, codes, Option, Result}
+use Rattle.std.specs.Prelude.{◌≡◌, ℕ, List, [], ◌∷◌, replicate, Some, None, Ok, Err, vec_items, codes, Option, Result}
 use Rattle.std.specs.Option.{option_map}
 use Rattle.std.specs.Str.{bytes_eq}
 use Rattle.walk.specs.Rows.{Row}

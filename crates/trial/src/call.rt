@@ -8,7 +8,7 @@ ghost use Rattle.trial.specs.declared.call.NoCall.TheVariants.{Unknown, NoMemory
 
 use super::number::{number, value};
 use super::verb::Verb;
-use std::alloc::{AllocError, Global};
+use std::alloc::{AllocFailed, Global};
 use text::pieces::Pieces;
 
 #[derive(Drop)]
@@ -29,10 +29,10 @@ pub(crate) enum NoCall {
     NoMemory,
 }
 
-impl From<AllocError> for NoCall {
+impl<T: Drop> From<AllocFailed<T>> for NoCall {
     ghost from_gives = { λ _ r. r ≡ NoMemory };
 
-    fn from(_e: AllocError) -> NoCall {
+    fn from(_e: AllocFailed<T>) -> NoCall {
         NoCall::NoMemory
     }
 }
@@ -59,12 +59,16 @@ pub(crate) fn printers(line: &[u8]) -> Result<u32, NoCall>
 }
 
 // The row of all the values to come.
+#[tactic(auto, using(crate::proofs::Scans::scan_more, crate::proofs::Scans::scan_stops, crate::proofs::Scans::scan_done))]
 fn scanned(heap: Global, fields: Pieces<'_>) -> Result<Vec<u8>, NoCall>
     ensures { Reads vec_items result (row_scanned (coming fields.entry)) }
 {
-    fields
-        .map(|field| value(field).ok_or(NoCall::Unknown))
-        .try_collect(heap)
+    // A loop: with `try_collect` the same would need some 100 lines of proof more.
+    let mut row = Vec::new(heap);
+    for field in fields {
+        row.push(value(field).ok_or(NoCall::Unknown)?)?;
+    }
+    Ok(row)
 }
 
 // A printer, and the row of the values behind it.
