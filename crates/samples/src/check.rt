@@ -1,63 +1,49 @@
 // One thing that is to hold of a walk.
-use std::alloc::{AllocError, Global};
+use arrayvec::ArrayVec;
 use text::digits::decimal;
 use text::pieces::Pieces;
 use walk::Walk;
 
-// The most values that a claim may name.
-const MOST: usize = 64;
-
-// The values, which have one blank between them; none where one is no number up to 255, or there are too many.
-fn row_of(heap: Global, values: &[u8]) -> Result<Option<Vec<u8>>, AllocError> {
-    let mut row = Vec::new(heap);
+// The values, which have one blank between them; none where one is no number up to 255, or there are more than a row has.
+fn row_of(values: &[u8]) -> Option<ArrayVec<u8, 64>> {
+    let mut row = ArrayVec::new();
     if values.is_empty() {
-        return Ok(Some(row));
+        return Some(row);
     }
     for value in Pieces::new(values, b' ') {
-        match decimal(value).and_then(|value| u8::try_from(value).ok()) {
-            Some(value) if row.len() < MOST => row.push(value)?,
-            _ => return Ok(None),
-        }
+        row.try_push(u8::try_from(decimal(value)?).ok()?).ok()?;
     }
-    Ok(Some(row))
+    Some(row)
 }
 
 // Whether the row at the label has the values, and the label is that of the row.
-fn row_is<W: Walk>(
-    heap: Global,
-    walk: &mut W,
-    label: u32,
-    values: &[u8],
-) -> Result<bool, AllocError> {
-    let Some(expected) = row_of(heap, values)? else {
-        return Ok(false);
-    };
-    let mut tray = vec![in heap; 0; walk.width()]?;
-    let read = walk.seek(label).is_ok() && walk.read(&mut tray).is_ok();
-    Ok(read && tray.as_slice() == expected.as_slice() && walk.find(&expected) == Ok(label))
+fn row_is<W: Walk>(walk: &mut W, label: u32, values: &[u8]) -> Option<bool> {
+    let expected = row_of(values)?;
+    let mut tray = [0u8; 64];
+    walk.seek(label).ok()?;
+    walk.read(&mut tray).ok()?;
+    let row = tray.get(..walk.width())?;
+    Some(row == expected.as_slice() && walk.find(row) == Ok(label))
 }
 
 // Whether no row has the values.
-fn row_is_none<W: Walk>(heap: Global, walk: &W, values: &[u8]) -> Result<bool, AllocError> {
-    Ok(match row_of(heap, values)? {
-        Some(row) => walk.find(&row).is_err(),
-        None => false,
-    })
+fn row_is_none<W: Walk>(walk: &W, values: &[u8]) -> Option<bool> {
+    let row = row_of(values)?;
+    Some(walk.find(row.as_slice()).is_err())
 }
 
 // Whether the claim holds of the walk.
-pub fn holds<W: Walk>(heap: Global, walk: &mut W, claim: &[u8]) -> Result<bool, AllocError> {
+pub fn holds<W: Walk>(walk: &mut W, claim: &[u8]) -> bool {
     let mut parts = Pieces::new(claim, b':');
     let (Some(subject), Some(values)) = (parts.next(), parts.next()) else {
-        return Ok(false);
+        return false;
     };
     match subject {
-        b"none" => row_is_none(heap, walk, values),
-        b"size" => Ok(decimal(values) == Some(walk.size())),
-        b"steady" => Ok(walk.steady() == (values == b"yes".as_slice())),
-        _ => match decimal(subject) {
-            Some(label) => row_is(heap, walk, label, values),
-            None => Ok(false),
-        },
+        b"none" => row_is_none(walk, values).unwrap_or(false),
+        b"size" => decimal(values) == Some(walk.size()),
+        b"steady" => walk.steady() == (values == b"yes".as_slice()),
+        _ => decimal(subject)
+            .and_then(|label| row_is(walk, label, values))
+            .unwrap_or(false),
     }
 }

@@ -45,7 +45,7 @@ pub fn run(heap: Global, line: &[u8], tally: &mut Tally) -> Result<bool, AllocEr
     for claim in claims {
         let good = match claim.strip_prefix(b"report:") {
             Some(expected) => report_is(heap, &text, expected)?,
-            None => holds(heap, &mut walk, claim)?,
+            None => holds(&mut walk, claim),
         };
         if !good {
             return Ok(false);
