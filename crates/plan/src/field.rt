@@ -36,7 +36,8 @@ pub struct Fields<'a> {
 // The longest text that is read, in bytes.
 pub const LONGEST: usize = 4096;
 
-// Whether one to three pieces are still to come.
+// Whether one to three pieces are still to come. (Tried: `parts.take(4).count()`, and `nth(2)` behind the first. The check does not
+// prove what an adapter over an iterator of one's own counts.)
 fn one_to_three(mut parts: Pieces<'_>) -> bool
     ensures { result ≡ one_to_three (coming parts.entry) }
 {
