@@ -1,8 +1,6 @@
 -- Comparing bytes with a fixed word. Assumes nothing.
-use Rattle.std.proofs.Common.{◌≡◌, ℕ, Bool, true, false, not, List, length, sym, refl, ap, ◌∙◌}
+use Rattle.std.proofs.Common.{◌≡◌, ℕ, Bool, true, false, not, List, sym, refl, ap, ◌∙◌}
 use Rattle.std.specs.Str.{bytes_eq}
-use Rattle.std.proofs.lemmas.Slice.Eq.{HasBytesAt, text_from_reads}
-use Rattle.plan.specs.Format.{kind_named}
 
 not_not : (t : Bool) → not (not t) ≡ t
 not_not true = refl
@@ -12,7 +10,3 @@ not_not false = refl
 pub same_from_ne : (xs ys word : List ℕ) (r t : Bool) → r ≡ not (bytes_eq xs ys) → ys ≡ word → r ≡ not t → bytes_eq xs word ≡ t
 same_from_ne xs ys word r t told is answer =
     ap (bytes_eq xs) (sym is) ∙ sym (not_not (bytes_eq xs ys)) ∙ ap not (sym told ∙ answer) ∙ not_not t
-
--- bytes that read as a word name what it names
-pub read_as : (bytes word : List ℕ) → length bytes ≡ length word → HasBytesAt bytes 0 word → kind_named word ≡ kind_named bytes
-read_as bytes word long reads = sym (ap kind_named (text_from_reads bytes word long reads))
