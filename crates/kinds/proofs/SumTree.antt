@@ -66,8 +66,8 @@ module _ (self : StockNode) (bin : 0 < length self.bins.now) where
     whole = ap sum (sym (take_all (suc last) counts (omega (arith, long)))) ∙ before (suc last) (omega arith) ∙ node_whole self bin
 
     -- the first value of the row at a label
-    pub row_picks : (label place : ℕ) → place ≡ label → (v : Option ℕ) → FallsIn counts place v → label < length rows → Begins rows label (unwrap_or v 0)
-    row_picks label place same v falls listed =
+    pub row_picks : (label place : ℕ) (v : Option ℕ) → FallsIn counts place v → place ≡ label → label < length rows → Begins rows label (unwrap_or v 0)
+    row_picks label place v falls same listed =
         let at = falls_found counts place v falls (omega (arith, whole)) in
         let value = unwrap_or v 0 in
         let inside : value ≤ last = omega (arith, at.0, long) in

@@ -1,5 +1,5 @@
 -- Where the words of a node's branches stand. Assumes nothing.
-use Rattle.std.proofs.Common.{◌≡◌, ℕ, zero, suc, ◌-◌, ◌*◌, ◌/◌, ◌<◌, ◌≤◌, false, ◌⊎◌, List, [], ◌∷◌, length, get_or, take, set, sum, Option, sym, ap, ◌∙◌, subst, ⊎_elim, mul-le-mul_right, mul_comm, div-lt_iff_lt-mul, le-div_iff_mul-le, add-one, arith}
+use Rattle.std.proofs.Common.{◌≡◌, ℕ, zero, suc, ◌-◌, ◌*◌, ◌/◌, ◌<◌, ◌≤◌, false, ◌⊎◌, List, [], ◌∷◌, length, get_or, take, set, sum, Option, sym, ap, ◌∙◌, subst₂, ⊎_elim, mul-le-mul_right, mul_comm, div-lt_iff_lt-mul, le-div_iff_mul-le, add-one, arith}
 use native.Mathlib.Nat.{le_of_mul-le-mul_left, lt_of_mul-lt-mul_left, div-le_of_le-mul}
 use lib.Seq.{take-set-lt}
 use Rattle.std.proofs.lemmas.List.{get_or-take, get_or_past, take-take, length-take}
@@ -96,10 +96,10 @@ module _ (n : WordsNode) (v : ℕ) (inside : v < n.kinds) where
     node_less = rw less_of (omega (arith, n.summed, one_less_sum (node_counts n) v (omega (arith, count_of))))
 
 -- the first value of the word at a label
-pub node_picks : (n : WordsNode) (label place : ℕ) → place ≡ label * n.left / n.rows → (v : Option ℕ) → FallsIn (node_counts n) place v → 0 < n.left → label < n.rows → Begins (node_words n) label (unwrap_or v 0)
-node_picks n label place is v falls some l =
+pub node_picks : (n : WordsNode) (label : ℕ) (counts : List ℕ) (place : ℕ) (v : Option ℕ) → FallsIn counts place v → counts ≡ node_counts n → place ≡ label * n.left / n.rows → 0 < n.left → label < n.rows → Begins (node_words n) label (unwrap_or v 0)
+node_picks n label counts place v falls own share some l =
     let any : 0 < n.rows = omega arith in
     let part : label * n.left < n.left * n.rows = omega (arith, mul-le-mul_right n.left l, mul_comm n.left n.rows) in
-    let below = (div-lt_iff_lt-mul any).1 part in
+    let below : place < sum counts = omega (arith, share, n.summed, ap sum own, (div-lt_iff_lt-mul any).1 part) in
     words_place (node_counts n) (unwrap_or v 0) n.left n.rows label n.summed n.known some l
-    (subst (λ p. FallsAt (node_counts n) p (unwrap_or v 0)) is (falls_found (node_counts n) place v falls (omega (arith, is, n.summed, below))))
+    (subst₂ (λ list p. FallsAt list p (unwrap_or v 0)) own share (falls_found counts place v falls below))
