@@ -1,3 +1,4 @@
+pub mod Falls
 pub mod Folds
 pub mod Made
 pub mod MadeLaws
@@ -5,5 +6,6 @@ pub mod MadeTables
 pub mod PlainChanges
 pub mod Products
 pub mod Stretches
+pub mod SumTree
 pub mod WordCounts
 pub mod WordTree

@@ -1,18 +1,20 @@
 -- Where the words of a node's branches stand. Assumes nothing.
-use Rattle.std.proofs.Common.{◌≡◌, ℕ, zero, suc, ◌+◌, ◌-◌, ◌*◌, ◌/◌, ◌<◌, ◌≤◌, false, ◌⊎◌, List, [], ◌∷◌, length, get_or, take, set, sum, sym, ap, ◌∙◌, ⊎_elim, mul-le-mul_right, mul_comm, div-lt_iff_lt-mul, le-div_iff_mul-le, add-one, arith}
+use Rattle.std.proofs.Common.{◌≡◌, ℕ, zero, suc, ◌-◌, ◌*◌, ◌/◌, ◌<◌, ◌≤◌, false, ◌⊎◌, List, [], ◌∷◌, length, get_or, take, set, sum, Option, sym, ap, ◌∙◌, subst₂, ⊎_elim, mul-le-mul_right, mul_comm, div-lt_iff_lt-mul, le-div_iff_mul-le, add-one, arith}
 use native.Mathlib.Nat.{le_of_mul-le-mul_left, lt_of_mul-lt-mul_left, div-le_of_le-mul}
 use lib.Seq.{take-set-lt}
 use Rattle.std.proofs.lemmas.List.{get_or-take, get_or_past, take-take, length-take}
-use Rattle.std.proofs.lemmas.List.Sums.{sum_by_more, sum_by-take-le, get_or-le-sum_by}
+use Rattle.std.proofs.lemmas.List.Sums.{sum_by-take-le, get_or-le-sum_by}
 use Rattle.std.proofs.lemmas.Bool.{cases_lt}
+use Rattle.std.specs.Option.{unwrap_or}
 use Rattle.walk.specs.Rows.{Row}
 use Rattle.kinds.specs.Lists.{one_less, words_of}
-use Rattle.kinds.specs.Tree.{Stands}
+use Rattle.kinds.specs.Tree.{Stands, FallsAt, FallsIn}
+use Rattle.kinds.proofs.Falls.{falls_found}
 use Rattle.kinds.specs.declared.multiset.WordsNode.{WordsNode}
 use Rattle.kinds.specs.Branches.{before, before_suc}
 use Rattle.kinds.specs.Multinomial.{before_share}
 use Rattle.kinds.specs.Nodes.{Begins, Nowhere, branch_picks, stands_as, words_enters, words_outside}
-use Rattle.kinds.specs.Words.{words_branch, counted_below, one_less_sum}
+use Rattle.kinds.specs.Words.{words_branch, one_less_sum}
 
 -- a part of the words is no more than all
 pub share_few : (part left rows : ℕ) → part ≤ left → part * rows / left ≤ rows
@@ -20,18 +22,15 @@ share_few part left rows h = div-le_of_le-mul left (mul-le-mul_right rows h)
 
 module _ (counts : List ℕ) (v : ℕ) where
   -- it falls among the counts as it does among the words
-  words_place : (left rows label rest : ℕ) → left ≡ sum counts → rows ≡ length (words_of left counts) → 0 < left → label < rows
-      → rest + sum (take v counts) ≡ label * left / rows → rest < get_or counts v 0 → Begins (words_of left counts) label v
-  words_place zero rows label rest e r some l at has = absurd (omega arith)
-  words_place (suc n) rows label rest e r some l at has =
-      let inside = counted_below counts v (omega arith) in
+  words_place : (left rows label : ℕ) → left ≡ sum counts → rows ≡ length (words_of left counts) → 0 < left → label < rows → FallsAt counts (label * left / rows) v → Begins (words_of left counts) label v
+  words_place zero rows label e r some l at = absurd (omega arith)
+  words_place (suc n) rows label e r some l at =
       let start : suc n * before (words_branch n counts) v ≡ sum (take v counts) * rows = before_share n counts (sym e) v (omega arith) ∙ ap (λ m. sum (take v counts) * m) (sym r) in
       let end : suc n * before (words_branch n counts) (suc v) ≡ sum (take (suc v) counts) * rows = before_share n counts (sym e) (suc v) (omega arith) ∙ ap (λ m. sum (take (suc v) counts) * m) (sym r) in
-      let more : sum (take (suc v) counts) ≡ sum (take v counts) + get_or counts v 0 = ap (λ k. sum (take k counts)) (sym (add-one v)) ∙ sum_by_more (λ x. x) counts v 0 inside in
       let any : 0 < rows = omega arith in
-      let low : sum (take v counts) * rows ≤ label * suc n = (le-div_iff_mul-le any).0 (omega arith) in
-      let high : label * suc n < sum (take (suc v) counts) * rows = (div-lt_iff_lt-mul any).0 (omega arith) in
-      branch_picks (words_branch n counts) (length counts) v label inside
+      let low : sum (take v counts) * rows ≤ label * suc n = (le-div_iff_mul-le any).0 at.1 in
+      let high : label * suc n < sum (take (suc v) counts) * rows = (div-lt_iff_lt-mul any).0 (omega (arith, at.2, ap (λ k. sum (take k counts)) (add-one v))) in
+      branch_picks (words_branch n counts) (length counts) v label at.0
       (le_of_mul-le-mul_left {k = suc n} (omega (arith, mul_comm label (suc n))) (omega arith))
       (omega (arith, before_suc (words_branch n counts) v, lt_of_mul-lt-mul_left (suc n) {m = label} {n = before (words_branch n counts) (suc v)} (omega (arith, mul_comm label (suc n)))))
 
@@ -83,10 +82,6 @@ module _ (n : WordsNode) (v : ℕ) (inside : v < n.kinds) where
   pub count_within : get_or n.counts v 0 ≤ n.left
   count_within = ⊎_elim (λ h. omega (arith, count_of, n.summed, get_or-le-sum_by (λ x. x) (node_counts n) v 0 h)) (λ h. omega (arith, count_of, get_or_past (node_counts n) v 0 h)) (cases_lt v (length (node_counts n)))
 
-  -- the first value of the word at a label
-  pub node_picks : (label rest : ℕ) → 0 < n.left → label < n.rows → rest + sum (take v n.counts) ≡ label * n.left / n.rows → rest < get_or n.counts v 0 → Begins (node_words n) label v
-  node_picks label rest some l at has = words_place (node_counts n) v n.left n.rows label rest n.summed n.known some l (ap (λ m. rest + m) before_of ∙ at) (omega (arith, count_of))
-
   module _ (some : 0 < n.left) (has : 0 < get_or n.counts v 0) where
     -- where the words stand that begin with the value, and what is left of them
     pub node_enters : Stands (node_words n) (v ∷ []) (record { from = sum (take v n.counts) * n.rows / n.left; count = get_or n.counts v 0 * n.rows / n.left; backward = false }) (words_of (n.left - 1) (take n.kinds (one_less n.counts v)))
@@ -99,3 +94,12 @@ module _ (n : WordsNode) (v : ℕ) (inside : v < n.kinds) where
     -- one value fewer is left there
     pub node_less : n.left - 1 ≡ sum (take n.kinds (one_less n.counts v))
     node_less = rw less_of (omega (arith, n.summed, one_less_sum (node_counts n) v (omega (arith, count_of))))
+
+-- the first value of the word at a label
+pub node_picks : (n : WordsNode) (label : ℕ) (counts : List ℕ) (place : ℕ) (v : Option ℕ) → FallsIn counts place v → counts ≡ node_counts n → place ≡ label * n.left / n.rows → 0 < n.left → label < n.rows → Begins (node_words n) label (unwrap_or v 0)
+node_picks n label counts place v falls own share some l =
+    let any : 0 < n.rows = omega arith in
+    let part : label * n.left < n.left * n.rows = omega (arith, mul-le-mul_right n.left l, mul_comm n.left n.rows) in
+    let below : place < sum counts = omega (arith, share, n.summed, ap sum own, (div-lt_iff_lt-mul any).1 part) in
+    words_place (node_counts n) (unwrap_or v 0) n.left n.rows label n.summed n.known some l
+    (subst₂ (λ list p. FallsAt list p (unwrap_or v 0)) own share (falls_found counts place v falls below))

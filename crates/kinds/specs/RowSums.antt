@@ -133,7 +133,7 @@ module _ (self : StockNode) (bin : 0 < length self.bins.now) where
   abbrev pub count_of : ℕ → ℕ
   count_of v = slice_index (front bins).ways (t - v)
 
-  abbrev most : ℕ
+  abbrev pub most : ℕ
   most = (front bins).most
 
   abbrev stocks : List ℕ
@@ -155,11 +155,14 @@ module _ (self : StockNode) (bin : 0 < length self.bins.now) where
   pub before_is : (v : ℕ) → v ≤ suc (min most t) → total v count_of ≡ ways_before stocks t v
   before_is v h = total_same count_of (λ w. ways stocks (t - w)) v (λ w lt. count_is w (omega arith))
 
+  -- the first bin has counts for the sums 0 to 32
+  pub ways_many : length (front bins).ways ≡ 33
+  ways_many = ap length (first_bin bins bin self.hold).counts ∙ ways_length stocks
+
   -- these stand side by side in the first bin
   pub before_read : (v i n : ℕ) → i + v ≡ t + 1 → n ≡ v → sum (take n (drop i (front bins).ways)) ≡ total v count_of
   before_read v i n at all =
-      let long : length (front bins).ways ≡ 33 = ap length (first_bin bins bin self.hold).counts ∙ ways_length stocks in
-      sum_taken (front bins).ways t v i n at all (omega (arith, self.small))
+      sum_taken (front bins).ways t v i n at all (omega (arith, ways_many, self.small))
 
   -- it is a label
   pub counts_few : (v : ℕ) → v ≤ min most t → total v count_of + count_of v ≤ 4294967295
@@ -184,19 +187,15 @@ module _ (self : StockNode) (bin : 0 < length self.bins.now) where
       subst (λ s. Nowhere (filled reflected s t) v) (sym (first_bin bins bin self.hold).stocks)
       (filled_empty most stocks t v reflected all_ones h (sym (count_is v h) ∙ none))
 
-  -- the value at which the label falls below the counts so far begins its row
-  pub node_picks : (v label rest : ℕ) → v ≤ min most t → rest + total v count_of ≡ label → rest < count_of v → Begins (filled reflected (mosts bins) t) label v
-  node_picks v label rest h so lt =
+  -- a value begins the rows at the labels that its count covers
+  pub node_picks : (v label : ℕ) → v ≤ min most t → total v count_of ≤ label → label < total (suc v) count_of → Begins (filled reflected (mosts bins) t) label v
+  node_picks v label h low high =
       subst (λ s. Begins (filled reflected s t) label v) (sym (first_bin bins bin self.hold).stocks)
       (filled_picks most stocks t v reflected all_ones label h (omega (arith, before_is v (omega arith))) (omega (arith, before_is v (omega arith), count_is v h)))
 
-  -- and some value does
-  pub node_whole : (v label rest : ℕ) → min most t < v → v ≤ suc (min most t) → rest + total v count_of ≡ label → label < length (filled reflected (mosts bins) t) → ⊥
-  node_whole v label rest over at so lt =
-      let whole : v ≡ suc (min most t) = omega arith in
-      let all = ap (λ s. ways s t) (first_bin bins bin self.hold).stocks in
-      let before = before_is v at ∙ ap (ways_before stocks t) whole in
-      omega (arith, filled_length reflected (mosts bins) t self.ones)
+  -- and all counts together are those of all rows
+  pub node_whole : total (suc (min most t)) count_of ≡ length (filled reflected (mosts bins) t)
+  node_whole = before_is (suc (min most t)) (omega arith) ∙ sym (filled_length reflected (mosts bins) t self.ones ∙ ap (λ s. ways s t) (first_bin bins bin self.hold).stocks)
 
   -- what is left of the rows is again such a node
   pub rest_few : (v : ℕ) → v ≤ min most t → ways stocks (t - v) ≤ 4294967295

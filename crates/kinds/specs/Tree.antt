@@ -1,5 +1,5 @@
 -- Where the rows of one list stand in another: the words of the tree machinery. Assumes nothing.
-use Rattle.std.specs.Prelude.{◌≡◌, ℕ, ◌+◌, ◌-◌, ◌<◌, ◌≤◌, cond, not, List, [], ◌∷◌, ◌++◌, length, Some, None, Option, ◌≢◌}
+use Rattle.std.specs.Prelude.{◌≡◌, ℕ, ◌+◌, ◌-◌, ◌<◌, ◌≤◌, cond, not, List, [], ◌∷◌, ◌++◌, length, take, sum, Some, None, Option, ◌≢◌}
 use Rattle.walk.specs.Rows.{Row, row_at}
 use Rattle.kinds.specs.declared.stretch.Stretch.{Stretch}
 
@@ -30,3 +30,12 @@ pub record Stands (outer : List Row) (front : Row) (s : Stretch) (inner : List R
 abbrev pub Enters : List Row → ℕ → Option Stretch → List Row → Type 0
 Enters outer v None inner = (i : ℕ) (r : Row) → i < length outer → row_at outer i ≢ v ∷ r
 Enters outer v (Some s) inner = Stands outer (v ∷ []) s inner
+
+-- n things counted off in order end within the count at the place v: it is above what the counts before it leave of n
+abbrev pub FallsAt : List ℕ → ℕ → ℕ → Type 0
+FallsAt counts n v = (v < length counts) × (sum (take v counts) ≤ n) × (n < sum (take (v + 1) counts))
+
+-- the place of that count, or that all counts together are no more than n
+abbrev pub FallsIn : List ℕ → ℕ → Option ℕ → Type 0
+FallsIn counts n None = sum counts ≤ n
+FallsIn counts n (Some v) = FallsAt counts n v

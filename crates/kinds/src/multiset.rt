@@ -5,7 +5,7 @@ ghost use Rattle.kinds.specs.Lists.{words_of, words};
 ghost use Rattle.kinds.specs.WordNodes.{words_leaf, mixings};
 
 use super::stretch::Stretch;
-use super::tree::Node;
+use super::tree::{Node, falls_in};
 
 // How many values the counts say together.
 pub(crate) fn total(counts: &[u8]) -> u8
@@ -75,16 +75,11 @@ impl Node for WordsNode {
 
     // The values have their shares of the words in order, so the label falls among the counts as it does among the words.
     fn pick(&self, label: u32) -> u8 {
-        // A `for`: `rest` shrinks from value to value, and no method of an iterator finds by that.
-        let mut rest = u64::from(label) * u64::from(self.left) / u64::from(self.rows);
-        for (v, count) in self.counts[..self.kinds].iter().enumerate() {
-            let count = u64::from(*count);
-            if rest < count {
-                return v as u8;
-            }
-            rest -= count;
-        }
-        0
+        let place = u64::from(label) * u64::from(self.left) / u64::from(self.rows);
+        let counts = self.counts[..self.kinds]
+            .iter()
+            .map(|count| u64::from(*count));
+        falls_in(counts, place).unwrap_or(0)
     }
 
     #[tactic(auto, using(crate::proofs::WordTree::before_within, crate::proofs::WordTree::count_within))]

@@ -7,7 +7,7 @@ ghost use Rattle.kinds.specs.Shapes.{reflects};
 
 use super::shape::{Bin, Order};
 use super::stretch::Stretch;
-use super::tree::Node;
+use super::tree::{Node, falls_in};
 
 // The stocks that are left, the sum that they are to have, and the order of the rows.
 #[derive(Clone, Copy)]
@@ -53,16 +53,10 @@ impl Node for StockNode<'_> {
 
     fn pick(&self, label: u32) -> u8 {
         let bin = &self.bins[0];
-        let mut rest = u64::from(label);
-        // a loop, since the rest of the label runs along: in `try_fold` the value found would be the error
-        for value in 0..=bin.most.min(self.left) {
-            let count = bin.ways[usize::from(self.left - value)];
-            if rest < count {
-                return value;
-            }
-            rest -= count;
-        }
-        0
+        let left = usize::from(self.left);
+        // a larger value leaves a smaller sum to the stocks behind, so the counts are read from the last to the first
+        let counts = &bin.ways[left.saturating_sub(usize::from(bin.most))..=left];
+        falls_in(counts.iter().rev().copied(), u64::from(label)).unwrap_or(0)
     }
 
     #[tactic(auto, using(crate::specs::RowSums::entering))]

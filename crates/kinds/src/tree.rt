@@ -2,7 +2,8 @@
 // row and row to label are written and proved here once, for every such tree.
 ghost use Rattle.std.specs.Prelude.{◌≡◌, ℕ, ◌+◌, ◌<◌, ◌≤◌, List, [], ◌∷◌, ◌++◌, length, OnSome};
 ghost use Rattle.walk.specs.Rows.{Row, row_at, label_of};
-ghost use Rattle.kinds.specs.Tree.{Enters, label_in, label_within, after_both};
+ghost use Rattle.std.specs.Iterator.{AlwaysYields, UpTo};
+ghost use Rattle.kinds.specs.Tree.{Enters, FallsIn, label_in, label_within, after_both};
 
 use super::stretch::Stretch;
 
@@ -62,6 +63,22 @@ pub trait Node {
         requires { 0 < depth self.old }
         ensures branch { Enters (below self.old) value result (below self.new) }
         ensures down { OnSome result (depth self.old ≡ depth self.new + 1) };
+}
+
+// The first value whose count is above the rest, after the counts of the values before it are taken from that.
+pub(crate) fn falls_in<I: Iterator<Item = u64> + Drop>(counts: I, mut rest: u64) -> Option<u8>
+    requires can { I.can_next counts }
+    requires few { UpTo (I.remaining counts) 256 }
+    ensures { (list : List ℕ) → AlwaysYields I.next_gives (λ x. x) counts list → FallsIn list rest result }
+{
+    // A `for`: the rest shrinks from count to count, and no method of an iterator finds by that.
+    for (value, count) in counts.enumerate() {
+        if rest < count {
+            return Some(value as u8);
+        }
+        rest -= count;
+    }
+    None
 }
 
 // Writes the row at a label of the node's rows.

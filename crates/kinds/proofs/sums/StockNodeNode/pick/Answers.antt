@@ -1,19 +1,16 @@
-use Rattle.std.proofs.Common.{suc, ◌-◌, get_or, ap, arith}
-use Rattle.kinds.specs.RowSums.{node_picks, node_whole, front}
+use Rattle.std.proofs.Common.{◌+◌, ◌-◌, ◌∙◌, ap, sym, subst, arith}
+use Rattle.std.proofs.lemmas.Iterator.Adapters.{YieldsList-from_rev_slice}
+use Rattle.std.proofs.lemmas.Iterator.Consumers.{YieldsList-at, YieldsList-from_copied}
+use Rattle.std.specs.Slice.Iter.{iter_rest}
+use Rattle.kinds.specs.Nodes.{Begins}
+use Rattle.kinds.proofs.Folds.{runs_of}
+use Rattle.kinds.proofs.SumTree.{row_picks}
 use Rattle.kinds.proofs.sums.StockNodeNode.pick.Goals as goal
 
--- the count that was read is that of the value
-pub returns-then-rest-count : goal.returns-then-rest-count
-returns-then-rest-count c =
+pub returns : goal.returns
+returns c =
     let self = c.args.self.now in
-    let read = ap (λ i. get_or (front self.bins.now).ways i 0) c.from.ensures in
-    node_picks self c.requires.inner c.loop-value.value c.args.label c.loop-value.rest (omega (arith, c.min-value-end.ensures)) c.loop-value.invariant (omega (arith, read, c.if-rest-count.true))
-
--- not even the last value has rows enough
-pub returns-else-rest-count : goal.returns-else-rest-count
-returns-else-rest-count c =
-    let self = c.args.self.now in
-    let read = ap (λ i. get_or (front self.bins.now).ways i 0) c.from.ensures in
-    let last = c.min-value-end.ensures in
-    absurd (node_whole self c.requires.inner (suc c.loop-value.value) c.args.label (c.loop-value.rest - get_or (front self.bins.now).ways c.from.result 0)
-    (omega arith) (omega arith) (omega (arith, read, c.if-rest-count.false, c.loop-value.invariant)) c.requires.listed)
+    let first = c.saturating_sub.result in
+    let falls = c.falls_in.ensures _ (runs_of (YieldsList-from_copied (YieldsList-at c.copied.ensures.source (YieldsList-from_rev_slice _ (ap iter_rest c.rev.ensures.source ∙ c.iter.ensures.rest))))) in
+    let begins = row_picks self c.requires.inner first (c.from-left.result + 1 - first) (omega (arith, c.saturating_sub.ensures, c.from.ensures, c.from-left.ensures)) (omega (arith, c.from-left.ensures)) c.args.label _ c.falls_in.result falls c.from-2.ensures c.requires.listed in
+    subst (Begins _ c.args.label) (sym c.unwrap_or.ensures) begins
