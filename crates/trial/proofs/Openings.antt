@@ -1,9 +1,11 @@
 -- Lines that open a book. Assumes nothing.
-use Rattle.std.proofs.Common.{◌≡◌, ℕ, suc, ◌+◌, ◌-◌, ◌<◌, ◌≤◌, Bool, true, false, cond, ◌&&◌, ◌||◌, eqb, List, ◌∷◌, length, get_or, drop, sym, ap, ◌∙◌, ap₂, add-one, arith, drop-cons}
+use Rattle.std.proofs.Common.{◌≡◌, ℕ, zero, suc, Some, Option, ◌+◌, ◌-◌, ◌<◌, Bool, true, false, cond, ◌&&◌, ◌||◌, eqb, List, ◌∷◌, length, get_or, drop, sym, ap, ◌∙◌, ap₂, add-one, arith, drop-cons}
 use Rattle.std.proofs.lemmas.Bool.Decides.{nat_tests}
 use Rattle.std.proofs.lemmas.List.{drop_all}
 use Rattle.text.specs.Pieces.{pieces}
-use Rattle.trial.specs.Day.{first_opens, before_opening}
+use Rattle.std.specs.List.{find, range_with_len}
+use Rattle.std.specs.Option.{unwrap_or}
+use Rattle.trial.specs.Day.{first_opens, opens_at, before_opening, plan_length}
 
 -- whether a line begins at the place
 abbrev pub begins : List ℕ → ℕ → Bool
@@ -14,23 +16,26 @@ dropped : (bs : List ℕ) (i : ℕ) → i < length bs → drop i bs ≡ get_or b
 dropped bs i lt = rw (add-one, drop-cons bs i 0)
 
 -- how many bytes stand before the first line that opens a book, seen from the byte at i
-here : (t : Bool) (bs : List ℕ) (i : ℕ) → i < length bs → t ≡ (begins bs i && first_opens (pieces 10 (drop i bs))) → before_opening (begins bs i) (drop i bs) ≡ cond t 0 (suc (before_opening (begins bs (i + 1)) (drop (i + 1) bs)))
-here t bs i lt is =
+here : (bs : List ℕ) (i : ℕ) → i < length bs → before_opening (begins bs i) (drop i bs) ≡ cond (opens_at bs i) 0 (suc (before_opening (begins bs (i + 1)) (drop (i + 1) bs)))
+here bs i lt =
     let first : eqb (i + 1) 0 ≡ false = grind (arith, nat_tests) in
     let place : (i + 1) - 1 ≡ i = omega arith in
     let next : begins bs (i + 1) ≡ eqb (get_or bs i 0) 10 = ap₂ (λ t k. t || eqb (get_or bs k 0) 10) first place in
     ap (before_opening (begins bs i)) (dropped bs i lt)
-    ∙ ap₂ (λ u v. cond u 0 (suc (before_opening v (drop (i + 1) bs)))) (ap (λ xs. begins bs i && first_opens (pieces 10 xs)) (sym (dropped bs i lt)) ∙ sym is) (sym next)
+    ∙ ap₂ (λ u v. cond u 0 (suc (before_opening v (drop (i + 1) bs)))) (ap (λ xs. begins bs i && first_opens (pieces 10 xs)) (sym (dropped bs i lt))) (sym next)
 
--- here it is
-pub opening_here : (n : ℕ) (t : Bool) (bs : List ℕ) (i : ℕ) → i < length bs → n ≡ i + before_opening (begins bs i) (drop i bs) → t ≡ (begins bs i && first_opens (pieces 10 (drop i bs))) → t ≡ true → i ≡ n
-opening_here n t bs i lt is opens holds = let e : before_opening (begins bs i) (drop i bs) ≡ 0 = here true bs i lt (sym holds ∙ opens) in omega (arith, is, e)
+-- the place i, or the first one of those behind it
+nearest : (opens : Bool) (later : Option ℕ) (i n r : ℕ) → unwrap_or later n ≡ (i + 1) + r → unwrap_or (cond opens (Some i) later) n ≡ i + cond opens 0 (suc r)
+nearest true later i n r e = omega arith
+nearest false later i n r e = omega (arith, e)
 
--- it is further on
-pub opening_later : (n : ℕ) (t : Bool) (bs : List ℕ) (i : ℕ) → i < length bs → n ≡ i + before_opening (begins bs i) (drop i bs) → t ≡ (begins bs i && first_opens (pieces 10 (drop i bs))) → t ≡ false → n ≡ (i + 1) + before_opening (begins bs (i + 1)) (drop (i + 1) bs)
-opening_later n t bs i lt is opens fails =
-    let e : before_opening (begins bs i) (drop i bs) ≡ suc (before_opening (begins bs (i + 1)) (drop (i + 1) bs)) = here false bs i lt (sym fails ∙ opens) in omega (arith, is, e)
+-- the first place that opens a book, from i on
+found_from : (bs : List ℕ) (k i : ℕ) → i + k ≡ length bs → unwrap_or (find (opens_at bs) (range_with_len i k)) (length bs) ≡ i + before_opening (begins bs i) (drop i bs)
+found_from bs zero i all = let none : before_opening (begins bs i) (drop i bs) ≡ 0 = ap (before_opening (begins bs i)) (drop_all i bs (omega arith)) in omega (arith, none)
+found_from bs (suc k) i all =
+    nearest (opens_at bs i) (find (opens_at bs) (range_with_len (i + 1) k)) i (length bs) (before_opening (begins bs (i + 1)) (drop (i + 1) bs)) (found_from bs k (i + 1) (omega arith))
+    ∙ ap (λ n. i + n) (sym (here bs i (omega arith)))
 
--- there is none
-pub opening_none : (n : ℕ) (bs : List ℕ) (i : ℕ) → length bs ≤ i → i ≤ length bs → n ≡ i + before_opening (begins bs i) (drop i bs) → length bs ≡ n
-opening_none n bs i le ge is = let e : before_opening (begins bs i) (drop i bs) ≡ 0 = ap (before_opening (begins bs i)) (drop_all i bs le) in omega (arith, is, e)
+-- the first place of all
+pub opening_found : (bs : List ℕ) (o : Option ℕ) → o ≡ find (opens_at bs) (range_with_len 0 (length bs)) → unwrap_or o (length bs) ≡ plan_length bs
+opening_found bs o is = let e = found_from bs (length bs) 0 (omega arith) in ap (λ o. unwrap_or o (length bs)) is ∙ omega (arith, e)

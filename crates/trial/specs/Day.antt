@@ -1,5 +1,5 @@
 -- What is written of a whole day: a plan text, and then calls. Assumes nothing.
-use Rattle.std.specs.Prelude.{ℕ, suc, Bool, true, false, cond, ◌&&◌, List, [], ◌∷◌, take, drop, Ok, Err, codes, Result, ◌==◌}
+use Rattle.std.specs.Prelude.{ℕ, suc, ◌-◌, Bool, true, false, cond, ◌&&◌, ◌||◌, List, [], ◌∷◌, take, drop, Ok, Err, codes, Result, ◌==◌, slice_index}
 use Rattle.std.specs.Str.{bytes_eq}
 use Rattle.walk.specs.Meaning.{Meaning}
 use Rattle.faults.specs.Faults.{cause_number}
@@ -18,6 +18,10 @@ first_is word (piece ∷ more) = bytes_eq piece word
 abbrev pub first_opens : List (List ℕ) → Bool
 first_opens [] = false
 first_opens (line ∷ lines) = first_is (codes "open") (pieces 32 line)
+
+-- a line begins at the place, and opens a book
+abbrev pub opens_at : List ℕ → ℕ → Bool
+opens_at input place = (place == 0 || slice_index input (place - 1) == 10) && first_opens (pieces 10 (drop place input))
 
 -- how many bytes stand before the first line that opens a book, where `begins` says whether a line begins here
 abbrev pub before_opening : Bool → List ℕ → ℕ

@@ -1,7 +1,8 @@
 // A whole day: the plan, and the calls.
-ghost use Rattle.std.specs.Prelude.{◌≡◌, ◌-◌, ◌≤◌, ◌==◌, ◌||◌, ◌&&◌, drop, length, slice_index, IfOk};
+ghost use Rattle.std.specs.Prelude.{◌≡◌, ◌≤◌, length, IfSome, IfOk};
+ghost use Rattle.std.specs.List.{find, range_with_len};
 ghost use Rattle.text.specs.Pieces.{pieces};
-ghost use Rattle.trial.specs.Day.{first_opens, plan_length, day_text};
+ghost use Rattle.trial.specs.Day.{first_opens, opens_at, plan_length, day_text};
 
 use super::run::run;
 use listing::tell;
@@ -22,23 +23,26 @@ fn opens(text: &[u8]) -> bool
 #[tactic(auto, using(std::proofs::lemmas::List::take_rest))]
 fn opens_at(input: &[u8], place: usize) -> bool
     requires { place ≤ length input.now }
-    ensures { result ≡ ((place == 0 || slice_index input.now (place - 1) == 10) && first_opens (pieces 10 (drop place input.now))) }
+    ensures { result ≡ opens_at input.now place }
 {
     (place == 0 || input[place - 1] == b'\n') && opens(&input[place..])
 }
 
-// How many bytes stand before the first line that opens a book.
-#[tactic(auto, using(crate::proofs::Openings::opening_here, crate::proofs::Openings::opening_later, crate::proofs::Openings::opening_none))]
+// The place of the first line that opens a book.
+fn opening(input: &[u8]) -> Option<usize>
+    ensures first { result ≡ find (opens_at input.now) (range_with_len 0 (length input.now)) }
+    ensures bound { IfSome result (λ place. place ≤ length input.now) }
+{
+    (0..input.len()).find(|place| opens_at(input, *place))
+}
+
+// How many bytes stand before it, or in all.
+#[tactic(auto, using(crate::proofs::Openings::opening_found))]
 fn plan_length(input: &[u8]) -> usize
     ensures value { result ≡ plan_length input.now }
     ensures bound { result ≤ length input.now }
 {
-    for i in 0..input.len() {
-        if opens_at(input, i) {
-            return i;
-        }
-    }
-    input.len()
+    opening(input).unwrap_or(input.len())
 }
 
 // What is written of a day: its calls with their answers, or the fault of its plan.
