@@ -4,10 +4,9 @@ ghost use Rattle.kinds.specs.Counts.{counted};
 ghost use Rattle.kinds.specs.Lists.{words_of, words};
 ghost use Rattle.kinds.specs.WordNodes.{words_leaf, mixings};
 
-use arrayvec::ArrayVec;
-
 use super::stretch::Stretch;
 use super::tree::Node;
+use arrayvec::ArrayVec;
 
 // How many values the counts say together.
 pub(crate) fn total(counts: &[u8]) -> u8
@@ -85,7 +84,7 @@ impl Node for WordsNode {
         0
     }
 
-    #[tactic(auto, using(crate::proofs::WordTree::before_within, crate::proofs::WordTree::count_within))]
+    #[tactic(auto, using(crate::proofs::WordTree::before_within, crate::proofs::WordTree::count_within, crate::proofs::WordTree::node_lacks))]
     fn enter(&mut self, value: u8) -> Option<Stretch> {
         let v = usize::from(value);
         if v >= self.counts.len() || self.counts[v] == 0 {

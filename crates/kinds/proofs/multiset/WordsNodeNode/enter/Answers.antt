@@ -1,17 +1,9 @@
-use Rattle.std.proofs.Common.{◌-◌, ◌<◌, false, [], ◌∷◌, get_or, ◌∙◌, subst, inl, inr, rules}
+use Rattle.std.proofs.Common.{◌-◌, ◌<◌, false, [], ◌∷◌, get_or, ◌∙◌, subst, rules}
 use Rattle.kinds.specs.Lists.{words_of, one_less}
 use Rattle.kinds.specs.Tree.{Stands}
-use Rattle.kinds.specs.Nodes.{Nowhere, stands_as}
-use Rattle.kinds.proofs.WordTree.{node_lacks, node_enters, node_less, node_written}
+use Rattle.kinds.specs.Nodes.{stands_as}
+use Rattle.kinds.proofs.WordTree.{node_enters, node_less, node_written}
 use Rattle.kinds.proofs.multiset.WordsNodeNode.enter.Goals as goal
-use Rattle.kinds.proofs.multiset.WordsNodeNode.enter.Goals.{then-v-len-via-then-v-len, then-v-len-via-else-v-len+then-deref-v-eq0}
-
-pub returns-then-v-len-clause-branch : goal.returns-then-v-len-clause-branch
-returns-then-v-len-clause-branch c =
-    let self = c.args.self.now in
-    let none = node_lacks self c.from-v.result c.requires
-    (elim c.then-v-len.branch [ then-v-len-via-then-v-len w ↦ inl (search rules) | then-v-len-via-else-v-len+then-deref-v-eq0 w ↦ inr (search rules) ]) in
-    subst (Nowhere (words_of self.left self.counts.items)) c.from-v.ensures none
 
 pub invariant_of-self : goal.invariant_of-self
 invariant_of-self c =
