@@ -68,15 +68,29 @@ module _ (n : WordsNode) (v : ℕ) where
   pub node_picks : (label rest : ℕ) → 0 < n.left → label < n.rows → rest + sum (take v n.counts.items) ≡ label * n.left / n.rows → rest < get_or n.counts.items v 0 → Begins (node_words n) label v
   node_picks label rest some l at has = words_place n.counts.items v n.left n.rows label rest n.summed n.known some l at has
 
-  -- one less is written through the slice that shows the counts
-  pub node_written : (shown : List ℕ) → shown ≡ n.counts.items → (with_items n.counts (set shown v (get_or shown v 0 - 1))).items ≡ one_less n.counts.items v
-  node_written shown same = rw same (items-with_items n.counts (one_less n.counts.items v) (search rules))
+  module _ (shown : List ℕ) (same : shown ≡ n.counts.items) where
+    -- the counts after one less is written through the slice that shows them
+    abbrev written : List ℕ
+    written = (with_items n.counts (set shown v (get_or shown v 0 - 1))).items
 
-  module _ (some : 0 < n.left) (has : 0 < get_or n.counts.items v 0) where
-    -- where the words stand that begin with the value, and what is left of them
-    pub node_enters : Stands (node_words n) (v ∷ []) (record { from = sum (take v n.counts.items) * n.rows / n.left; count = get_or n.counts.items v 0 * n.rows / n.left; backward = false }) (words_of (n.left - 1) (one_less n.counts.items v))
-    node_enters = words_goes n.counts.items v n.left n.rows n.summed n.known some has
+    -- these are the counts with one fewer of the value
+    written_less : written ≡ one_less n.counts.items v
+    written_less = rw same (items-with_items n.counts (one_less n.counts.items v) (search rules))
 
-    -- one value fewer is left there
-    pub node_less : n.left - 1 ≡ sum (one_less n.counts.items v)
-    node_less = omega (arith, n.summed, one_less_sum n.counts.items v has)
+    module _ (some : 0 < n.left) (has : 0 < get_or n.counts.items v 0) where
+      -- where the words stand that begin with the value, by the shares of the counts
+      enters : Stands (node_words n) (v ∷ []) (record { from = sum (take v n.counts.items) * n.rows / n.left; count = get_or n.counts.items v 0 * n.rows / n.left; backward = false }) (words_of (n.left - 1) (one_less n.counts.items v))
+      enters = words_goes n.counts.items v n.left n.rows n.summed n.known some has
+
+      -- one value fewer is left there
+      pub node_less : n.left - 1 ≡ sum written
+      node_less = omega (arith, n.summed, one_less_sum n.counts.items v has, ap sum written_less)
+
+      -- how many words begin with the value
+      pub node_rows : (count : ℕ) → count ≡ get_or n.counts.items v 0 * n.rows / n.left → count ≡ length (words_of (n.left - 1) written)
+      node_rows count all = all ∙ enters.counted ∙ ap (λ counts. length (words_of (n.left - 1) counts)) (sym written_less)
+
+      -- the same as `enters` says, of the numbers and counts that the code has
+      pub node_enters : (value from count : ℕ) → v ≡ value → from ≡ sum (take v n.counts.items) * n.rows / n.left → count ≡ get_or n.counts.items v 0 * n.rows / n.left
+          → Stands (node_words n) (value ∷ []) (record { from = from; count = count; backward = false }) (words_of (n.left - 1) written)
+      node_enters value from count is begin all = rw (sym is, begin, all, written_less) enters

@@ -84,7 +84,7 @@ impl Node for WordsNode {
         0
     }
 
-    #[tactic(auto, using(crate::proofs::WordTree::before_within, crate::proofs::WordTree::count_within, crate::proofs::WordTree::node_lacks))]
+    #[tactic(auto, using(crate::proofs::WordTree::before_within, crate::proofs::WordTree::count_within, crate::proofs::WordTree::node_lacks, crate::proofs::WordTree::node_less, crate::proofs::WordTree::node_rows, crate::proofs::WordTree::node_enters))]
     fn enter(&mut self, value: u8) -> Option<Stretch> {
         let v = usize::from(value);
         if v >= self.counts.len() || self.counts[v] == 0 {
