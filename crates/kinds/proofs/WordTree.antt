@@ -1,8 +1,7 @@
 -- Where the words of a node's branches stand. Assumes nothing.
-use Rattle.std.proofs.Common.{◌≡◌, ℕ, zero, suc, ◌-◌, ◌*◌, ◌/◌, ◌<◌, ◌≤◌, false, ◌⊎◌, List, [], ◌∷◌, length, get_or, take, set, sum, Option, sym, ap, ◌∙◌, subst₂, ⊎_elim, mul-le-mul_right, mul_comm, div-lt_iff_lt-mul, le-div_iff_mul-le, add-one, arith}
+use Rattle.std.proofs.Common.{◌≡◌, ℕ, zero, suc, ◌-◌, ◌*◌, ◌/◌, ◌<◌, ◌≤◌, false, ◌⊎◌, List, [], ◌∷◌, length, get_or, take, set, sum, Option, sym, ap, ◌∙◌, subst₂, ⊎_elim, mul-le-mul_right, mul_comm, div-lt_iff_lt-mul, le-div_iff_mul-le, add-one, arith, rules}
 use native.Mathlib.Nat.{le_of_mul-le-mul_left, lt_of_mul-lt-mul_left, div-le_of_le-mul}
-use lib.Seq.{take-set-lt}
-use Rattle.std.proofs.lemmas.List.{get_or-take, get_or_past, take-take, length-take}
+use Rattle.std.proofs.lemmas.List.{get_or_past}
 use Rattle.std.proofs.lemmas.List.Sums.{sum_by-take-le, get_or-le-sum_by}
 use Rattle.std.proofs.lemmas.Bool.{cases_lt}
 use Rattle.std.specs.Option.{unwrap_or}
@@ -13,8 +12,10 @@ use Rattle.kinds.proofs.Falls.{falls_found}
 use Rattle.kinds.specs.declared.multiset.WordsNode.{WordsNode}
 use Rattle.kinds.specs.Branches.{before, before_suc}
 use Rattle.kinds.specs.Multinomial.{before_share}
-use Rattle.kinds.specs.Nodes.{Begins, Nowhere, branch_picks, stands_as, words_enters, words_outside}
+use Rattle.kinds.specs.Nodes.{Begins, Nowhere, branch_picks, words_enters, words_outside}
 use Rattle.kinds.specs.Words.{words_branch, one_less_sum}
+use Rattle.arrayvec.specs.ArrayVec.{with_items}
+use Rattle.arrayvec.proofs.ArrayVecLemmas.{items-with_items}
 
 -- a part of the words is no more than all
 pub share_few : (part left rows : ℕ) → part ≤ left → part * rows / left ≤ rows
@@ -45,61 +46,55 @@ module _ (counts : List ℕ) (v : ℕ) where
   words_lacks zero e some none = absurd (omega arith)
   words_lacks (suc n) e some none = words_outside n counts (sym e) v none
 
--- the counts of a node, and the words below it
-abbrev node_counts : WordsNode → List ℕ
-node_counts n = take n.kinds n.counts
-
+-- the words below a node
 abbrev node_words : WordsNode → List Row
-node_words n = words_of n.left (node_counts n)
+node_words n = words_of n.left n.counts.items
 
 module _ (n : WordsNode) (v : ℕ) where
   -- the values below v that are to come are some of those that are left
-  pub before_within : v ≤ n.kinds → sum (take v n.counts) ≤ n.left
-  before_within inside = omega (arith, n.summed, ap sum (take-take v n.kinds n.counts inside), sum_by-take-le (λ x. x) (node_counts n) v)
-
-  -- a value past the counts, or with none left, begins no word
-  pub node_lacks : 0 < n.left → (n.kinds ≤ v) ⊎ ((v < n.kinds) × (get_or n.counts v 0 ≡ 0)) → Nowhere (node_words n) v
-  node_lacks some why = words_lacks (node_counts n) v n.left n.summed some (⊎_elim past none why)
-    where
-      past : n.kinds ≤ v → get_or (node_counts n) v 0 ≡ 0
-      past h = get_or_past (node_counts n) v 0 (simp length-take (omega arith))
-
-      none : (v < n.kinds) × (get_or n.counts v 0 ≡ 0) → get_or (node_counts n) v 0 ≡ 0
-      none h = get_or-take n.kinds n.counts v 0 h.0 ∙ h.1
-
-module _ (n : WordsNode) (v : ℕ) (inside : v < n.kinds) where
-  count_of : get_or (node_counts n) v 0 ≡ get_or n.counts v 0
-  count_of = get_or-take n.kinds n.counts v 0 inside
-
-  before_of : sum (take v (node_counts n)) ≡ sum (take v n.counts)
-  before_of = ap sum (take-take v n.kinds n.counts (omega arith))
-
-  -- the counts with one fewer of the value
-  less_of : take n.kinds (one_less n.counts v) ≡ one_less (node_counts n) v
-  less_of = take-set-lt n.kinds n.counts v (get_or n.counts v 0 - 1) inside ∙ ap (λ c. set (node_counts n) v (c - 1)) (sym count_of)
+  pub before_within : sum (take v n.counts.items) ≤ n.left
+  before_within = omega (arith, n.summed, sum_by-take-le (λ x. x) n.counts.items v)
 
   -- a value's count is some of what is left
-  pub count_within : get_or n.counts v 0 ≤ n.left
-  count_within = ⊎_elim (λ h. omega (arith, count_of, n.summed, get_or-le-sum_by (λ x. x) (node_counts n) v 0 h)) (λ h. omega (arith, count_of, get_or_past (node_counts n) v 0 h)) (cases_lt v (length (node_counts n)))
+  pub count_within : get_or n.counts.items v 0 ≤ n.left
+  count_within = ⊎_elim (λ h. omega (arith, n.summed, get_or-le-sum_by (λ x. x) n.counts.items v 0 h)) (λ h. omega (arith, get_or_past n.counts.items v 0 h)) (cases_lt v (length n.counts.items))
 
-  module _ (some : 0 < n.left) (has : 0 < get_or n.counts v 0) where
-    -- where the words stand that begin with the value, and what is left of them
-    pub node_enters : Stands (node_words n) (v ∷ []) (record { from = sum (take v n.counts) * n.rows / n.left; count = get_or n.counts v 0 * n.rows / n.left; backward = false }) (words_of (n.left - 1) (take n.kinds (one_less n.counts v)))
-    node_enters =
-        let inner = words_of (n.left - 1) (one_less (node_counts n) v) in
-        let share = λ (part : ℕ). part * n.rows / n.left in
-        let goes = words_goes (node_counts n) v n.left n.rows n.summed n.known some (omega (arith, count_of)) in
-        rw less_of (stands_as (node_words n) (v ∷ []) false inner _ _ _ _ (ap share before_of) (ap share count_of) goes)
+  -- a value past the counts, or with none left, begins no word
+  pub node_lacks : 0 < n.left → (length n.counts.items ≤ v) ⊎ (get_or n.counts.items v 0 ≡ 0) → Nowhere (node_words n) v
+  node_lacks some why = words_lacks n.counts.items v n.left n.summed some (⊎_elim (get_or_past n.counts.items v 0) (λ none. none) why)
 
-    -- one value fewer is left there
-    pub node_less : n.left - 1 ≡ sum (take n.kinds (one_less n.counts v))
-    node_less = rw less_of (omega (arith, n.summed, one_less_sum (node_counts n) v (omega (arith, count_of))))
+  module _ (shown : List ℕ) (same : shown ≡ n.counts.items) where
+    -- the counts after one less is written through the slice that shows them
+    abbrev written : List ℕ
+    written = (with_items n.counts (set shown v (get_or shown v 0 - 1))).items
+
+    -- these are the counts with one fewer of the value
+    written_less : written ≡ one_less n.counts.items v
+    written_less = rw same (items-with_items n.counts (one_less n.counts.items v) (search rules))
+
+    module _ (some : 0 < n.left) (has : 0 < get_or n.counts.items v 0) where
+      -- where the words stand that begin with the value, by the shares of the counts
+      enters : Stands (node_words n) (v ∷ []) (record { from = sum (take v n.counts.items) * n.rows / n.left; count = get_or n.counts.items v 0 * n.rows / n.left; backward = false }) (words_of (n.left - 1) (one_less n.counts.items v))
+      enters = words_goes n.counts.items v n.left n.rows n.summed n.known some has
+
+      -- one value fewer is left there
+      pub node_less : n.left - 1 ≡ sum written
+      node_less = omega (arith, n.summed, one_less_sum n.counts.items v has, ap sum written_less)
+
+      -- how many words begin with the value
+      pub node_rows : (count : ℕ) → count ≡ get_or n.counts.items v 0 * n.rows / n.left → count ≡ length (words_of (n.left - 1) written)
+      node_rows count all = all ∙ enters.counted ∙ ap (λ counts. length (words_of (n.left - 1) counts)) (sym written_less)
+
+      -- the same as `enters` says, of the numbers and counts that the code has
+      pub node_enters : (value from count : ℕ) → v ≡ value → from ≡ sum (take v n.counts.items) * n.rows / n.left → count ≡ get_or n.counts.items v 0 * n.rows / n.left
+          → Stands (node_words n) (value ∷ []) (record { from = from; count = count; backward = false }) (words_of (n.left - 1) written)
+      node_enters value from count is begin all = rw (sym is, begin, all, written_less) enters
 
 -- the first value of the word at a label
-pub node_picks : (n : WordsNode) (label : ℕ) (counts : List ℕ) (place : ℕ) (v : Option ℕ) → FallsIn counts place v → counts ≡ node_counts n → place ≡ label * n.left / n.rows → 0 < n.left → label < n.rows → Begins (node_words n) label (unwrap_or v 0)
+pub node_picks : (n : WordsNode) (label : ℕ) (counts : List ℕ) (place : ℕ) (v : Option ℕ) → FallsIn counts place v → counts ≡ n.counts.items → place ≡ label * n.left / n.rows → 0 < n.left → label < n.rows → Begins (node_words n) label (unwrap_or v 0)
 node_picks n label counts place v falls own share some l =
     let any : 0 < n.rows = omega arith in
     let part : label * n.left < n.left * n.rows = omega (arith, mul-le-mul_right n.left l, mul_comm n.left n.rows) in
     let below : place < sum counts = omega (arith, share, n.summed, ap sum own, (div-lt_iff_lt-mul any).1 part) in
-    words_place (node_counts n) (unwrap_or v 0) n.left n.rows label n.summed n.known some l
+    words_place n.counts.items (unwrap_or v 0) n.left n.rows label n.summed n.known some l
     (subst₂ (λ list p. FallsAt list p (unwrap_or v 0)) own share (falls_found counts place v falls below))

@@ -6,6 +6,7 @@ ghost use Rattle.kinds.specs.WordNodes.{words_leaf, mixings};
 
 use super::stretch::Stretch;
 use super::tree::{Node, falls_in};
+use arrayvec::ArrayVec;
 
 // How many values the counts say together.
 pub(crate) fn total(counts: &[u8]) -> u8
@@ -15,18 +16,15 @@ pub(crate) fn total(counts: &[u8]) -> u8
     counts.iter().copied().sum()
 }
 
-// How often each value is still to come, for the values below `kinds`, how many values that is together, and the number
-// of words that are left to write with them. `read` and `find` ask for no memory, so the counts stand in an array, with
-// how many they are beside it.
-#[derive(Clone, Copy)]
+// How often each value is still to come, how many values that is together, and the number of words that are left to
+// write with them. `read` and `find` ask for no memory, so the counts stand in a vector of fixed capacity.
+#[derive(Drop)]
 pub struct WordsNode {
-    counts: [u8; 32],
-    kinds: usize,
+    counts: ArrayVec<u8, 32>,
     left: u8,
     rows: u32,
-    ghost within: { kinds ≤ 32 },
-    ghost summed: { left ≡ sum (take kinds counts) },
-    ghost known: { rows ≡ length (words_of left (take kinds counts)) },
+    ghost summed: { left ≡ sum counts.items },
+    ghost known: { rows ≡ length (words_of left counts.items) },
 }
 
 impl WordsNode {
@@ -35,13 +33,10 @@ impl WordsNode {
         requires within { length counts.now ≤ 32 }
         requires few { sum counts.now ≤ 255 }
         requires known { rows ≡ length (words counts.now) }
-        ensures { (result.left ≡ sum counts.now) × (take result.kinds result.counts ≡ counts.now) }
+        ensures { (result.left ≡ sum counts.now) × (result.counts.items ≡ counts.now) }
     {
-        let mut all = [0; 32];
-        all[..counts.len()].copy_from_slice(counts);
         WordsNode {
-            counts: all,
-            kinds: counts.len(),
+            counts: ArrayVec::try_from(counts).unwrap(),
             left: total(counts),
             rows,
         }
@@ -49,10 +44,12 @@ impl WordsNode {
 
     // How many values below v are to come.
     fn before(&self, v: usize) -> u8
-        requires { v ≤ self.now.kinds }
-        ensures { result ≡ sum (take v self.now.counts) }
+        requires { v ≤ length self.now.counts.items }
+        ensures { result ≡ sum (take v self.now.counts.items) }
     {
-        total(&self.counts[0..v])
+        // what is left fits a byte, and so does any part of it
+        prove!(self.left <= 255);
+        total(&self.counts[..v])
     }
 
     // The number of words that fall to a part of the values that are left.
@@ -67,25 +64,23 @@ impl WordsNode {
 }
 
 impl Node for WordsNode {
-    ghost below = { λ n. words_of n.left (take n.kinds n.counts) };
+    ghost below = { λ n. words_of n.left n.counts.items };
 
     ghost depth = { λ n. n.left };
 
-    ghost leaf = { λ n none. words_leaf n.left (take n.kinds n.counts) none };
+    ghost leaf = { λ n none. words_leaf n.left n.counts.items none };
 
     // The values have their shares of the words in order, so the label falls among the counts as it does among the words.
     fn pick(&self, label: u32) -> u8 {
         let place = u64::from(label) * u64::from(self.left) / u64::from(self.rows);
-        let counts = self.counts[..self.kinds]
-            .iter()
-            .map(|count| u64::from(*count));
+        let counts = self.counts.iter().map(|count| u64::from(*count));
         falls_in(counts, place).unwrap_or(0)
     }
 
-    #[tactic(auto, using(crate::proofs::WordTree::before_within, crate::proofs::WordTree::count_within))]
+    #[tactic(auto, using(crate::proofs::WordTree::before_within, crate::proofs::WordTree::count_within, crate::proofs::WordTree::node_lacks, crate::proofs::WordTree::node_less, crate::proofs::WordTree::node_rows, crate::proofs::WordTree::node_enters))]
     fn enter(&mut self, value: u8) -> Option<Stretch> {
         let v = usize::from(value);
-        if v >= self.kinds || self.counts[v] == 0 {
+        if v >= self.counts.len() || self.counts[v] == 0 {
             return None;
         }
         let from = self.share(self.before(v));

@@ -8,6 +8,7 @@ ghost use Rattle.kinds.specs.Counts.{counted};
 ghost use Rattle.kinds.specs.Lists.{changes};
 
 use super::levels::count_product;
+use arrayvec::ArrayVec;
 
 // The number of orders of n values, or `None` where a walk may not have as many.
 pub(crate) fn count_changes(n: u16) -> Option<u32>
@@ -95,9 +96,7 @@ pub(crate) fn find_changes(row: &[u8]) -> Option<u32>
     requires { length row.now ≤ 12 }
     ensures { result ≡ label_of (changes (length row.now)) row.now }
 {
-    // `find` asks for no memory, so the copy stands in an array.
-    let mut room = [0u8; 12];
-    let copy = &mut room[..row.len()];
-    copy.copy_from_slice(row);
-    unwind(copy)
+    // `find` asks for no memory, so the copy stands in a vector of fixed capacity.
+    let mut copy: ArrayVec<u8, 12> = ArrayVec::try_from(row).unwrap();
+    unwind(&mut copy)
 }
