@@ -140,11 +140,7 @@ impl<L: Walk, R: Walk> Walk for Join<L, R> {
     }
 
     fn width(&self) -> usize {
-        if join_size(&self.left, &self.right).is_ok() {
-            self.left.width() + self.right.width()
-        } else {
-            0
-        }
+        join_size(&self.left, &self.right).map_or(0, |_| self.left.width() + self.right.width())
     }
 
     fn place(&self) -> u32 {

@@ -28,8 +28,8 @@ impl From<MakingFault> for Trouble {
 impl From<AllocError> for Trouble {
     ghost from_gives = { λ _ r. r ≡ Pile (Making NoMemory) };
 
-    fn from(_e: AllocError) -> Trouble {
-        Trouble::Pile(JoinFault::Making(MakingFault::NoMemory))
+    fn from(e: AllocError) -> Trouble {
+        Self::from(MakingFault::from(e))
     }
 }
 
@@ -41,7 +41,7 @@ impl From<JoinFault> for Trouble {
     }
 }
 
-// The walks that come back are let go.
+// What was handed over is dropped.
 impl<F: Into<Trouble>, W: Drop> From<Refused<F, W>> for Trouble {
     ghost from_gives = { λ e r. F.converts e.fault r };
 

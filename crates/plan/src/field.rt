@@ -36,17 +36,12 @@ pub struct Fields<'a> {
 // The longest text that is read, in bytes.
 pub const LONGEST: usize = 4096;
 
-// Whether one to three pieces are still to come. (Tried: `parts.take(4).count()`, and `nth(2)` behind the first. The check does not
-// prove what an adapter over an iterator of one's own counts.)
+// Whether one to three pieces are still to come.
 fn one_to_three(mut parts: Pieces<'_>) -> bool
     ensures { result ≡ one_to_three (coming parts.entry) }
 {
-    if parts.next().is_none() {
-        return false;
-    }
-    let _ = parts.next();
-    let _ = parts.next();
-    parts.next().is_none()
+    let four = (parts.next(), parts.next(), parts.next(), parts.next());
+    matches!(four, (Some(_), _, _, None))
 }
 
 impl<'a> Lines<'a> {

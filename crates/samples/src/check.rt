@@ -32,18 +32,19 @@ fn row_is_none<W: Walk>(walk: &W, values: &[u8]) -> Option<bool> {
     Some(walk.find(row.as_slice()).is_err())
 }
 
-// Whether the claim holds of the walk.
-pub fn holds<W: Walk>(walk: &mut W, claim: &[u8]) -> bool {
+// Whether the claim holds of the walk; none where it is no claim.
+fn claimed<W: Walk>(walk: &mut W, claim: &[u8]) -> Option<bool> {
     let mut parts = Pieces::new(claim, b':');
-    let (Some(subject), Some(values)) = (parts.next(), parts.next()) else {
-        return false;
-    };
+    let (subject, values) = (parts.next()?, parts.next()?);
     match subject {
-        b"none" => row_is_none(walk, values).unwrap_or(false),
-        b"size" => decimal(values) == Some(walk.size()),
-        b"steady" => walk.steady() == (values == b"yes".as_slice()),
-        _ => decimal(subject)
-            .and_then(|label| row_is(walk, label, values))
-            .unwrap_or(false),
+        b"none" => row_is_none(walk, values),
+        b"size" => Some(decimal(values) == Some(walk.size())),
+        b"steady" => Some(walk.steady() == (values == b"yes".as_slice())),
+        _ => row_is(walk, decimal(subject)?, values),
     }
+}
+
+// Whether it is a claim, and holds of the walk.
+pub fn holds<W: Walk>(walk: &mut W, claim: &[u8]) -> bool {
+    claimed(walk, claim).unwrap_or(false)
 }

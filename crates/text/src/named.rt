@@ -16,10 +16,5 @@ pub trait Named: Copy {
 pub fn named_among<T: Named>(values: &[T], bytes: &[u8]) -> Option<T>
     ensures { result ≡ named_among T.Named.word_of values.now bytes.now }
 {
-    for value in values {
-        if bytes == value.word() {
-            return Some(*value);
-        }
-    }
-    None
+    values.iter().copied().find(|value| bytes == value.word())
 }

@@ -38,22 +38,22 @@ impl<T: Drop> From<AllocFailed<T>> for NoCall {
 }
 
 // The number that is the one field to come.
-fn lone_number(mut fields: Pieces<'_>) -> Result<u32, NoCall>
-    ensures { result ≡ ok_or (lone_number (coming fields.entry)) Unknown }
+fn lone_number(mut fields: Pieces<'_>) -> Option<u32>
+    ensures { result ≡ lone_number (coming fields.entry) }
 {
     match (fields.next(), fields.next()) {
-        (Some(field), None) => number(field).ok_or(NoCall::Unknown),
-        _ => Err(NoCall::Unknown),
+        (Some(field), None) => number(field),
+        _ => None,
     }
 }
 
 // The number of printers, where the line opens a book.
-pub(crate) fn printers(line: &[u8]) -> Result<u32, NoCall>
-    ensures { result ≡ ok_or (printers_of line.now) Unknown }
+pub(crate) fn printers(line: &[u8]) -> Option<u32>
+    ensures { result ≡ printers_of line.now }
 {
     let mut fields = Pieces::new(line, b' ');
-    if fields.next() != Some(b"open".as_slice()) {
-        return Err(NoCall::Unknown);
+    if fields.next()? != b"open".as_slice() {
+        return None;
     }
     lone_number(fields)
 }
@@ -63,7 +63,7 @@ pub(crate) fn printers(line: &[u8]) -> Result<u32, NoCall>
 fn scanned(heap: Global, fields: Pieces<'_>) -> Result<Vec<u8>, NoCall>
     ensures { Reads vec_items result (row_scanned (coming fields.entry)) }
 {
-    // A loop: with `try_collect` the same would need some 100 lines of proof more.
+    // A loop with `?` reads as plainly as a chain that ends in `try_collect`.
     let mut row = Vec::new(heap);
     for field in fields {
         row.push(value(field).ok_or(NoCall::Unknown)?)?;
@@ -97,10 +97,10 @@ impl Call {
         let mut fields = Pieces::new(line, b' ');
         let verb = fields.next().and_then(Verb::of);
         match verb.ok_or(NoCall::Unknown)? {
-            Verb::Take => lone_number(fields).map(Call::Take),
+            Verb::Take => lone_number(fields).map(Call::Take).ok_or(NoCall::Unknown),
             Verb::Printed => printed(heap, fields),
-            Verb::Spoiled => lone_number(fields).map(Call::Spoiled),
-            Verb::Row => lone_number(fields).map(Call::Row),
+            Verb::Spoiled => lone_number(fields).map(Call::Spoiled).ok_or(NoCall::Unknown),
+            Verb::Row => lone_number(fields).map(Call::Row).ok_or(NoCall::Unknown),
             Verb::Label => scanned(heap, fields).map(Call::Label),
             Verb::Counts => bare(Call::Counts, fields),
             Verb::Close => bare(Call::Close, fields),

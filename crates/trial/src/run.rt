@@ -26,7 +26,7 @@ fn push_trial<W: Walk + Drop>(
     let heap = *out.allocator();
     let rows = walk.size();
     let width = walk.width();
-    let Ok(printers) = printers(opening) else {
+    let Some(printers) = printers(opening) else {
         return push_answer(out, opening, &Answer::Unknown);
     };
     match Book::open(walk, printers as usize, heap) {
