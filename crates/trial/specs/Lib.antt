@@ -3,3 +3,4 @@ pub mod Calls
 pub mod Answers
 pub mod Lines
 pub mod Day
+pub mod Sessions

@@ -4,6 +4,7 @@ ghost use Rattle.text.specs.Coming.{coming};
 ghost use Rattle.book.specs.Histories.{answer, after, showing};
 ghost use Rattle.book.specs.State.{state};
 ghost use Rattle.trial.specs.Answers.{answer_text, told};
+ghost use Rattle.trial.specs.Sessions.{Leaves};
 ghost use Rattle.trial.specs.Calls.{call_of, meant, tray as blank_tray};
 ghost use Rattle.trial.specs.Lines.{left_by, written, after_line, lines_text};
 ghost use Rattle.trial.specs.Lines.{answered as line_answered};
@@ -50,8 +51,7 @@ impl<W: Walk> Session<W> {
     // Makes the call on the book.
     fn perform(&mut self, call: &Call) -> Result<Answer, AllocError>
         ensures answer { IfOk result (λ a. answer_text a ≡ told self.old.width (answer (state W.Walk.meaning self.old.book) (meant call.now))) }
-        ensures after { OnOk result (state W.Walk.meaning self.new.book ≡ after (state W.Walk.meaning self.old.book) (meant call.now)) }
-        ensures width { self.new.width ≡ self.old.width }
+        ensures after { OnOk result (Leaves W.Walk.meaning self.old self.new (after (state W.Walk.meaning self.old.book) (meant call.now))) }
     {
         match call {
             Call::Take(printer) => {
@@ -75,8 +75,7 @@ impl<W: Walk> Session<W> {
     // What is answered to a line.
     fn answered(&mut self, line: &[u8]) -> Result<Answer, AllocError>
         ensures answer { IfOk result (λ a. answer_text a ≡ line_answered self.old.width (state W.Walk.meaning self.old.book) (call_of line.now)) }
-        ensures after { OnOk result (state W.Walk.meaning self.new.book ≡ left_by (state W.Walk.meaning self.old.book) (call_of line.now)) }
-        ensures width { self.new.width ≡ self.old.width }
+        ensures after { OnOk result (Leaves W.Walk.meaning self.old self.new (left_by (state W.Walk.meaning self.old.book) (call_of line.now))) }
     {
         match Call::of(self.heap, line) {
             Ok(call) => self.perform(&call),
@@ -88,8 +87,7 @@ impl<W: Walk> Session<W> {
     // Appends what a line gives: a comment is written as it is, and a call with its answer.
     fn push_line(&mut self, out: &mut Vec<u8>, line: &[u8]) -> Result<(), AllocError>
         ensures text { OnOk result (out.new.items ≡ out.old.items ++ written self.old.width (state W.Walk.meaning self.old.book) line.now) }
-        ensures after { OnOk result (state W.Walk.meaning self.new.book ≡ after_line (state W.Walk.meaning self.old.book) line.now) }
-        ensures width { self.new.width ≡ self.old.width }
+        ensures after { OnOk result (Leaves W.Walk.meaning self.old self.new (after_line (state W.Walk.meaning self.old.book) line.now)) }
     {
         match line {
             [] => {}
