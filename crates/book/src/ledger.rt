@@ -1,4 +1,4 @@
-// What the book has written down: lanes and hands, the waiting labels, and how many rows the bench has.
+// What the book keeps: lanes and hands, the waiting labels, and how many rows the bench has.
 ghost use Rattle.std.specs.Prelude.{◌+◌, ◌≤◌, vec_len};
 ghost use Rattle.std.specs.VecDeque.{deque_len, deque_capacity};
 ghost use Rattle.book.specs.Lanes.{hands, undrawn};

@@ -36,6 +36,7 @@ impl<W: Walk> Book<W> {
         ensures answer { Opens W.Walk.meaning walk printers result }
         ensures life { IfOk result (λ b. WholeLife (state W.Walk.meaning b)) }
     {
+        // A match, since the walk goes into either answer: two closures could not both take it.
         match Ledger::open(walk.size(), printers, heap) {
             Ok(ledger) => Ok(Book { walk, ledger }),
             Err(fault) => Err(Refused { fault, kept: walk }),

@@ -42,6 +42,8 @@ impl BookRefusal {
     }
 }
 
+// The conversions are written out, since a derived one promises no value.
+
 impl From<Refusal> for BookRefusal {
     ghost from_gives = { λ e r. r ≡ Row e };
 

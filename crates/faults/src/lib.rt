@@ -85,7 +85,7 @@ impl fmt::Display for Layer {
     }
 }
 
-// The conversions say what they give, which those of a derive would not.
+// The conversions are written out, since a derived one promises no value.
 
 impl From<MakingFault> for PartFault {
     ghost from_gives = { λ fault r. r ≡ Making fault };

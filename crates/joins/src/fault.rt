@@ -25,6 +25,7 @@ impl JoinFault {
     }
 }
 
+// Written out, since a derived conversion promises no value.
 impl From<MakingFault> for JoinFault {
     ghost from_gives = { λ e r. r ≡ Making e };
 

@@ -62,6 +62,7 @@ impl<L: Walk, R: Walk> Join<L, R> {
     ) -> Result<Join<L, R>, Refused<JoinFault, (L, R)>>
         ensures { Joins L.Walk.meaning R.Walk.meaning (swings order) left right result }
     {
+        // No `?`, since the refusal takes the walks along.
         if let Err(fault) = join_size(&left, &right) {
             return Err(Refused {
                 fault,

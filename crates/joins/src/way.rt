@@ -6,6 +6,7 @@ ghost use Rattle.joins.specs.Steps.{goes_down, right_way, steps, after_step};
 use walk::Walk;
 use walk::answers::Refusal;
 
+// An enum and no closure, since the way of the right walk is found out at each step.
 #[derive(Clone, Copy, PartialEq, Eq, Debug)]
 pub(crate) enum Way {
     Up,

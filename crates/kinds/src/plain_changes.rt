@@ -44,8 +44,8 @@ fn take_out(row: &mut [u8], at: usize)
     row[at..].rotate_left(1);
 }
 
-// A position at which a value stands, or `None` where there is none. A loop over the values of a row with their index is
-// the form that `find` is to have.
+// A position at which a value stands, or `None` where there is none. Row values are looked at by a loop with an index: a rule of
+// the project.
 fn position_of(row: &[u8], value: u8) -> Option<usize>
     ensures { MatchOption result ((k : ℕ) → k < length row.now → slice_index row.now k ≢ value) (λ k. (k < length row.now) × (slice_index row.now k ≡ value)) }
 {

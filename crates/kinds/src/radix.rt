@@ -17,7 +17,7 @@ pub struct RadixNode<'a> {
 }
 
 impl<'a> RadixNode<'a> {
-    // The node above all rows of the levels.
+    // The node above all rows of the levels. It asks once what its ghost fields say.
     pub(crate) fn new(levels: &'a [Level], order: Order) -> RadixNode<'a>
         requires hold { levels_hold levels.now ≡ true }
         requires few { product (radices levels.now) ≤ 4294967295 }

@@ -19,7 +19,8 @@ fn sum_within(most: u16, list: &[u16]) -> bool
         .is_some()
 }
 
-// Whether the list has n numbers, and n is up to 32.
+// Whether the list has n numbers, and n is up to 32. The two come apart, as a plan has them, and the makers refuse where they
+// disagree.
 fn has_entries(n: u16, list: &[u16]) -> bool
     ensures { result ≡ (nat_le n 32 && (length list.now == n)) }
 {

@@ -22,7 +22,8 @@ pub struct StockNode<'a> {
     ghost ones: { (not (reflects order) || all_between 1 1 (mosts bins.now)) ≡ true },
 }
 
-// How many rows the counts say together.
+// How many rows the counts say together: one call of the library's `sum`, with the bound that it asks for. (`multiset::total` has
+// bytes, and another bound.)
 fn total(counts: &[u64]) -> u32
     requires { sum counts.now ≤ 4294967295 }
     ensures { result ≡ sum counts.now }
@@ -31,7 +32,7 @@ fn total(counts: &[u64]) -> u32
 }
 
 impl<'a> StockNode<'a> {
-    // The node above all rows of the stocks with a sum.
+    // The node above all rows of the stocks with a sum. It asks once what its ghost fields say.
     pub(crate) fn new(bins: &'a [Bin], left: u8, order: Order) -> StockNode<'a>
         requires hold { bins_hold bins.now ≡ true }
         requires small { left ≤ 32 }

@@ -1,4 +1,5 @@
-// What the kinds are made from: the numbers are tested, then the rows are counted, and then memory is asked for.
+// What the kinds are made from: the numbers are tested, then the rows are counted, and then memory is asked for. Each table has
+// these three steps in a line each, and nothing else to share.
 ghost use Rattle.std.specs.Prelude.{◌≡◌, ◌≤◌, true, length, replicate, IfOk, sum};
 ghost use Rattle.kinds.specs.Bins.{bins_of};
 ghost use Rattle.kinds.specs.Counts.{Tabled};

@@ -71,7 +71,7 @@ pub(crate) fn falls_in<I: Iterator<Item = u64> + Drop>(counts: I, mut rest: u64)
     requires few { UpTo (I.remaining counts) 256 }
     ensures { (list : List ℕ) → AlwaysYields I.next_gives (λ x. x) counts list → FallsIn list rest result }
 {
-    // A `for`: the rest shrinks from count to count, and no method of an iterator finds by that.
+    // A `for`: the rest shrinks from count to count, and in `try_fold` the value found would be the error.
     for (value, count) in counts.enumerate() {
         if rest < count {
             return Some(value as u8);
@@ -91,6 +91,7 @@ pub(crate) fn write_row<N: Node + Drop>(mut node: N, label: u32, tray: &mut [u8]
     for cell in tray.iter_mut() {
         let value = node.pick(rest);
         *cell = value;
+        // `pick` gave a value with which a row begins, so there is a branch.
         let Some(stretch) = node.enter(value) else {
             return;
         };
@@ -109,7 +110,7 @@ pub(crate) fn find_row<N: Node + Drop>(mut node: N, size: u32, row: &[u8]) -> Op
         count: size,
         backward: false,
     };
-    // the rules ask for a loop over row values with an index here
+    // Row values are looked at by a loop with an index: a rule of the project.
     for i in 0..row.len() {
         let stretch = node.enter(row[i])?;
         whole = whole.then(stretch);

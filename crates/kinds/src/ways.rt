@@ -74,6 +74,7 @@ pub(crate) fn bins_of(heap: Global, stocks: &[u16]) -> Result<Vec<Bin>, AllocErr
     requires { all_between 0 32 stocks.now ≡ true }
     ensures { IfOk result (λ v. v.items ≡ bins_of stocks.now) }
 {
+    // A `for`: the counts run along, which in a chain would be a closure that changes them.
     let mut bins = Vec::with_capacity(heap, stocks.len())?;
     let mut behind = Ways::none();
     for most in stocks.iter().rev() {

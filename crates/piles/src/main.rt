@@ -1,4 +1,4 @@
-// Walks over walks over walks, some over a walk of somebody else's making, and what they list.
+// Walks over walks over walks, some over a walk that another crate makes, and what they list.
 #![tactic(auto)]
 
 mod show;

@@ -17,6 +17,8 @@ pub enum Trouble {
     Output(io::Error),
 }
 
+// The conversions are written out, since a derived one promises no value.
+
 impl From<MakingFault> for Trouble {
     ghost from_gives = { λ e r. r ≡ Pile (Making e) };
 

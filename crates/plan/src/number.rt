@@ -11,8 +11,8 @@ fn digit(b: u8) -> Option<u16>
     }
 }
 
-// A number of one, two or three digits. Only 0 itself begins with a 0. The format wants the bytes matched as a slice of so
-// many.
+// A number of one, two or three digits. Only 0 itself begins with a 0. Its bytes are matched as a slice of so many: a rule of the
+// project.
 pub fn number(bytes: &[u8]) -> Option<u16>
     ensures { result ≡ number_value bytes.now }
 {

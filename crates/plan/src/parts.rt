@@ -16,7 +16,8 @@ use std::alloc::Global;
 use text::pieces::Pieces;
 use walk::making::MakingFault;
 
-// Makes the parts that stand on line 2 and after, up to the first fault.
+// Makes the parts that stand on line 2 and after, up to the first fault. Two loops, left by a label at that fault, with each number
+// taken by `let .. else`: a rule of the project.
 pub(crate) fn make_parts(heap: Global, lines: Pieces<'_>) -> Result<Vec<Kind>, PlanFault>
     requires few { length (coming lines) ≤ 3 }
     ensures { Gives (λ v. meanings v.items) result (parts_made (coming lines.entry)) }

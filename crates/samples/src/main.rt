@@ -1,4 +1,4 @@
-// Holds what the library says against rows and faults from outside. Each line of standard input has a plan text, in which
+// Compares what the library says with rows and faults from outside. Each line of standard input has a plan text, in which
 // `~` stands for the byte 10 and `^` for the byte 200, and then, each after a `|`, what is to hold of it:
 //   N,L,LAYER    the text is refused with that number, line and layer
 //   size:N       the walk has so many rows

@@ -1,4 +1,4 @@
-// What has been held against the library.
+// What has been compared with what the library says.
 use std::fmt;
 
 #[derive(Clone, Copy, Default)]

@@ -12,7 +12,7 @@ fn behind(value: u32, digit: u8) -> Option<u32>
     }
 }
 
-// The value of one or more digits, of which the first may be 0; none above 4,294,967,295.
+// The value of one or more digits, of which the first may be 0; none above 4,294,967,295. The library's `parse` takes a sign too.
 pub fn decimal(digits: &[u8]) -> Option<u32>
     ensures { result ≡ decimal_value digits.now }
 {

@@ -27,10 +27,7 @@ impl From<Result<u32, BookRefusal>> for Answer {
     ghost from_gives = { λ res answer. answer_text answer ≡ told 0 (number_answer res) };
 
     fn from(res: Result<u32, BookRefusal>) -> Answer {
-        match res {
-            Ok(number) => Answer::Number(number),
-            Err(refusal) => Answer::Refused(refusal),
-        }
+        res.map_or_else(Answer::Refused, Answer::Number)
     }
 }
 

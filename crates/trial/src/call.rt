@@ -29,6 +29,7 @@ pub(crate) enum NoCall {
     NoMemory,
 }
 
+// Written out, since a derived conversion promises no value.
 impl<T: Drop> From<AllocFailed<T>> for NoCall {
     ghost from_gives = { λ _ r. r ≡ NoMemory };
 
@@ -99,7 +100,9 @@ impl Call {
         match verb.ok_or(NoCall::Unknown)? {
             Verb::Take => lone_number(fields).map(Call::Take).ok_or(NoCall::Unknown),
             Verb::Printed => printed(heap, fields),
-            Verb::Spoiled => lone_number(fields).map(Call::Spoiled).ok_or(NoCall::Unknown),
+            Verb::Spoiled => lone_number(fields)
+                .map(Call::Spoiled)
+                .ok_or(NoCall::Unknown),
             Verb::Row => lone_number(fields).map(Call::Row).ok_or(NoCall::Unknown),
             Verb::Label => scanned(heap, fields).map(Call::Label),
             Verb::Counts => bare(Call::Counts, fields),

@@ -48,7 +48,7 @@ impl<W> Session<W> {
 }
 
 impl<W: Walk> Session<W> {
-    // Makes the call on the book.
+    // Makes the call on the book. `take` and `row` stand out in full: a closure over both would want their clauses again.
     fn perform(&mut self, call: &Call) -> Result<Answer, AllocError>
         ensures answer { IfOk result (λ a. answer_text a ≡ told self.old.width (answer (state W.Walk.meaning self.old.book) (meant call.now))) }
         ensures after { OnOk result (Leaves W.Walk.meaning self.old self.new (after (state W.Walk.meaning self.old.book) (meant call.now))) }

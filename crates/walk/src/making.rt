@@ -28,6 +28,8 @@ impl MakingFault {
     }
 }
 
+// The conversions are written out, since a derived one promises no value.
+
 impl From<AllocError> for MakingFault {
     ghost from_gives = { λ _ r. r ≡ NoMemory };
 

@@ -1,4 +1,5 @@
-// Label to row and row to label, shape by shape.
+// Label to row and row to label, shape by shape. The same nodes are made in both: one enum of them would need an `impl Node`
+// with a match in each method.
 ghost use Rattle.std.specs.Prelude.{◌≡◌, ◌<◌, length};
 ghost use Rattle.walk.specs.Rows.{row_at, label_of};
 ghost use Rattle.kinds.specs.Shapes.{rows_of};
