@@ -23,6 +23,7 @@ impl<W: Walk> Book<W> {
         if tray.len() < self.walk.width() {
             return Err(BookRefusal::Row(Refusal::ShortTray));
         }
+        // `take` has these two calls too; one function for both would want a clause for each of their cases.
         self.walk.seek(label)?;
         self.walk.read(tray)?;
         Ok(label)
