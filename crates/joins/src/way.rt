@@ -14,7 +14,7 @@ pub(crate) enum Way {
 }
 
 impl Way {
-    // The way that the right walk goes: the other one where its rows come backward.
+    // The way that the right walk goes: the other one where its rows come backward, which is a fact about a row and no way.
     pub(crate) fn turned(self, back: bool) -> Way
         ensures { goes_down result ≡ right_way back (goes_down self) }
     {

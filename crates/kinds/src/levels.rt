@@ -34,7 +34,7 @@ pub(crate) fn levels_of(heap: Global, radices: &[u16], size: u32) -> Result<Vec<
     requires counted { size ≡ product radices.now }
     ensures { IfOk result (λ v. v.items ≡ levels_of radices.now) }
 {
-    // A `for`: as a chain, `scan` would carry `below` through a closure that changes it, and be no plainer.
+    // A `for`: as a chain, `scan` would hand `below` through a closure that changes it, and be no plainer.
     let mut levels = Vec::with_capacity(heap, radices.len())?;
     let mut below = size;
     for radix in radices {

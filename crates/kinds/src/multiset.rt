@@ -8,7 +8,7 @@ use super::stretch::Stretch;
 use super::tree::{Node, falls_in};
 use arrayvec::ArrayVec;
 
-// How many values the counts say together.
+// How many values the counts say together: one call of the library's `sum`, with the bound that it asks for.
 pub(crate) fn total(counts: &[u8]) -> u8
     requires { sum counts.now ≤ 255 }
     ensures { result ≡ sum counts.now }

@@ -17,7 +17,7 @@ pub struct Level {
     pub below: u32,
 }
 
-// One stock, and for each sum up to 32 how many rows the stocks after it have with that sum, counted up to 2^32.
+// One stock, and for each sum up to 32 how many rows the stocks after it have with that sum, counted up to 2^32: always 33 counts.
 #[derive(Clone, Copy)]
 pub struct Bin {
     pub most: u8,

@@ -1,6 +1,7 @@
 // Where the rows of one list stand in another.
 
-// `count` neighbouring rows from the label `from` on, in the order of the inner list or backward.
+// `count` neighbouring rows from the label `from` on, in the order of the inner list or backward: a yes or no on which no other
+// field depends.
 #[derive(Clone, Copy, PartialEq, Eq, Debug)]
 pub struct Stretch {
     pub from: u32,

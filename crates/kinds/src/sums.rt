@@ -22,8 +22,8 @@ pub struct StockNode<'a> {
     ghost ones: { (not (reflects order) || all_between 1 1 (mosts bins.now)) ≡ true },
 }
 
-// How many rows the counts say together: one call of the library's `sum`, with the bound that it asks for. (`multiset::total` has
-// bytes, and another bound.)
+// How many rows the counts say together. `multiset::total` has another type and bound. Written out in `enter`, the bounds of the
+// sum and of the cast stayed open.
 fn total(counts: &[u64]) -> u32
     requires { sum counts.now ≤ 4294967295 }
     ensures { result ≡ sum counts.now }

@@ -66,6 +66,7 @@ pub(crate) fn choice_table(heap: Global, n: u16, t: u16) -> Result<(Vec<Bin>, u3
     if !choice_fits(n, t) {
         return Err(MakingFault::OutOfRange);
     }
+    // No memory is asked for before the rows are counted.
     let ones = [1u16; 32];
     sums_table(heap, &ones[..usize::from(n)], t)
 }

@@ -16,7 +16,7 @@ use walk::Walk;
 // The most rows that are listed.
 const MOST: u32 = 1000;
 
-// What stands before the value at a place of a row.
+// What stands before the value at a place of a row: one blank or nothing, which wants no type to display.
 fn gap(place: usize) -> &'static str
     ensures { result.now ≡ gap_text place }
 {
@@ -71,7 +71,7 @@ pub fn listing<W: Walk>(heap: Global, walk: &mut W) -> Result<String, AllocError
     Ok(out)
 }
 
-// A fault as text: the names, and one line with its number, its line and its layer.
+// A fault as text: the names, and one line with its number, its line and its layer. It prints any number, and so takes no fault.
 pub fn fault_text<L: Display + Drop>(
     heap: Global,
     number: u8,

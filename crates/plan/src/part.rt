@@ -19,6 +19,7 @@ use text::pieces::Pieces;
 pub struct Head<'a> {
     pub kind: KindName,
     pub n: u16,
+    // 0 where the kind takes none, since the makers take a number
     pub t: u16,
     pub entries: Pieces<'a>,
 }

@@ -19,6 +19,7 @@ fn row_of(values: &[u8]) -> Option<ArrayVec<u8, 64>> {
 // Whether the row at the label has the values, and the label is that of the row.
 fn row_is<W: Walk>(walk: &mut W, label: u32, values: &[u8]) -> Option<bool> {
     let expected = row_of(values)?;
+    // No memory is asked for: no row is wider than 64.
     let mut tray = [0u8; 64];
     walk.seek(label).ok()?;
     walk.read(&mut tray).ok()?;

@@ -23,6 +23,7 @@ pub(crate) enum Answer {
     Unknown,
 }
 
+// Written out, since a derived conversion promises no value.
 impl From<Result<u32, BookRefusal>> for Answer {
     ghost from_gives = { λ res answer. answer_text answer ≡ told 0 (number_answer res) };
 
@@ -31,7 +32,7 @@ impl From<Result<u32, BookRefusal>> for Answer {
     }
 }
 
-// The answer without its row. Want of memory is no answer.
+// The answer without its row. Want of memory is no answer. The counts are written here, since only a trial writes them so.
 impl fmt::Display for Answer {
     ghost output = { λ answer. Some (said answer) };
 

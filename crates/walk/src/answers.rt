@@ -13,7 +13,8 @@ pub enum Refusal {
 }
 
 impl Refusal {
-    // The number by which the refusal is told.
+    // The number by which the refusal is told. A method, and no trait or `From`, here and for the faults: no code is generic over
+    // what has a number, and the name says which number it is.
     pub fn number(self) -> u8
         ensures { result ≡ refusal_number self }
     {
