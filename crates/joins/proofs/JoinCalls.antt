@@ -1,5 +1,5 @@
 -- How the calls of a join follow from those of the two walks. Assumes nothing.
-use Rattle.std.proofs.Common.{◌≡◌, ℕ, ◌+◌, ◌-◌, ◌*◌, ◌<◌, ◌≤◌, Bool, true, false, cond, ◌&&◌, List, [], ◌++◌, length, take, drop, is_ok, Ok, Err, sym, refl, ap, ◌∙◌, subst, ap₂, ⊎_elim, append_assoc, arith}
+use Rattle.std.proofs.Common.{◌≡◌, ℕ, ◌+◌, ◌-◌, ◌*◌, ◌/◌, ◌%◌, ◌<◌, ◌≤◌, Bool, true, false, cond, ◌&&◌, List, [], ◌++◌, length, take, drop, is_ok, Ok, Err, sym, refl, ap, ◌∙◌, subst, ap₂, ⊎_elim, append_assoc, arith}
 use borrow.Rule.Slice.PartMut.{put_mid}
 use Rattle.std.specs.Result.{result_unwrap_or}
 use Rattle.std.proofs.lemmas.List.{append-nil, length-append, length-drop, take_at, drop_at, take_all, drop_all, drop-drop}
@@ -16,7 +16,7 @@ use Rattle.joins.specs.Join.{mirrored, joined_label, join_size, join_of, join_pl
 use Rattle.joins.specs.declared.fault.JoinFault.{JoinFault}
 use Rattle.walk.proofs.Cases.{seek_in, read_row, found, lost, finds_label, finds_none}
 use Rattle.joins.specs.JoinLaws.{Fits, fits_cases, turns_over, join_of_size, join_of_row, join_lawful}
-use Rattle.joins.specs.Joined.{pair_at, label_below, factors_some}
+use Rattle.joins.specs.Joined.{pair_divided, pair_at, label_below, factors_some}
 use Rattle.joins.specs.Stepping.{StepsTo, AtEnd, step_in, step_out, step_none, step_accepted, step_refused, odd_step, right_steps, right_ends, turned_ends, left_steps, join_ends}
 
 -- a join that has rows
@@ -62,6 +62,12 @@ module _ (swing : Bool) (a b : Meaning) where
             all = all;
             is = join_fits fits ∙ ap (standing (join_of swing a b)) (cond-false _ _ _ (ne_eqb (size a) 0 (λ e. omega (arith, each.0))));
           }
+
+  -- the labels of the two rows that stand at a label
+  pub pair_of : SomeRows swing a b → (n label j : ℕ) → n ≡ size b → label < size (joined swing a b) → j ≡ mirrored (swing && odd (label / n)) (size b) (label % n) →
+      (label / n < size a) × (j < size b) × (joined_label swing (size b) (label / n) j ≡ label)
+  pair_of rows n label j is lt at =
+      pair_divided swing (size a) (size b) n label j is (omega (arith, rows.all)) (at ∙ ap (λ m. mirrored (swing && odd (label / n)) m (label % n)) (sym is))
 
   module _ (lawful_a : Lawful a) (lawful_b : Lawful b) (rows : SomeRows swing a b) where
     -- the left walk stands at a label
