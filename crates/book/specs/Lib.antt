@@ -1,5 +1,4 @@
 pub mod Calls
-pub mod Examples
 pub mod Histories
 pub mod Lanes
 pub mod Opening
