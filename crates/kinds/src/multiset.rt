@@ -19,7 +19,7 @@ pub(crate) fn total(counts: &[u8]) -> u8
 // How often each value is still to come, how many values that is together, and the number of words that are left to
 // write with them. `read` and `find` ask for no memory, so the counts stand in a vector of fixed capacity.
 #[derive(Drop)]
-pub struct WordsNode {
+pub(crate) struct WordsNode {
     counts: ArrayVec<u8, 32>,
     left: u8,
     rows: u32,

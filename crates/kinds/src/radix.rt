@@ -9,7 +9,7 @@ use super::tree::Node;
 
 // The radices that are left, and the order of the rows.
 #[derive(Clone, Copy)]
-pub struct RadixNode<'a> {
+pub(crate) struct RadixNode<'a> {
     levels: &'a [Level],
     order: Order,
     ghost hold: { levels_hold levels.now ≡ true },

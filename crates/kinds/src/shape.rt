@@ -5,27 +5,27 @@ ghost use Rattle.kinds.specs.Shapes.{reflects, steady_of};
 
 // Whether the rows after an odd value come backward.
 #[derive(Clone, Copy, PartialEq, Eq, Debug)]
-pub enum Order {
+pub(crate) enum Order {
     Rising,
     Reflected,
 }
 
 // One radix, and how many rows the radices after it have.
 #[derive(Clone, Copy)]
-pub struct Level {
+pub(crate) struct Level {
     pub radix: u8,
     pub below: u32,
 }
 
 // One stock, and for each sum up to 32 how many rows the stocks after it have with that sum, counted up to 2^32: always 33 counts.
 #[derive(Clone, Copy)]
-pub struct Bin {
+pub(crate) struct Bin {
     pub most: u8,
     pub ways: [u64; 33],
 }
 
 #[derive(Drop)]
-pub enum Shape {
+pub(crate) enum Shape {
     // `digits`, and reflected `gray`
     Radices(Vec<Level>, Order),
     // `stock` and `choose`, and reflected, with stocks of 1, `door`: the stocks, and the sum of a row

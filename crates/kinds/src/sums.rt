@@ -11,7 +11,7 @@ use super::tree::{Node, falls_in};
 
 // The stocks that are left, the sum that they are to have, and the order of the rows.
 #[derive(Clone, Copy)]
-pub struct StockNode<'a> {
+pub(crate) struct StockNode<'a> {
     bins: &'a [Bin],
     left: u8,
     order: Order,

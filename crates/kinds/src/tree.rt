@@ -41,7 +41,7 @@ impl Stretch {
 }
 
 // A node of a tree of rows.
-pub trait Node {
+pub(crate) trait Node {
     // the rows below the node, in order
     ghost below: { Self → List Row };
 

@@ -4,7 +4,7 @@ use listing::listing;
 use walk::Walk;
 
 // A line on the walk, its listing and, where there are neighbours, their changes.
-pub fn show<W: Walk>(rt: &HostRuntime, name: &str, walk: &mut W) -> Result<(), Trouble> {
+pub(crate) fn show<W: Walk>(rt: &HostRuntime, name: &str, walk: &mut W) -> Result<(), Trouble> {
     let size = walk.size();
     let width = walk.width();
     let steady = if walk.steady() {

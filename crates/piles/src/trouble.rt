@@ -10,7 +10,7 @@ use std::io;
 use walk::making::{MakingFault, Refused};
 
 #[derive(Debug, Drop)]
-pub enum Trouble {
+pub(crate) enum Trouble {
     // a walk was not made
     Pile(JoinFault),
     // a line was not written

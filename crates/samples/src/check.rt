@@ -46,6 +46,6 @@ fn claimed<W: Walk>(walk: &mut W, claim: &[u8]) -> Option<bool> {
 }
 
 // Whether it is a claim, and holds of the walk.
-pub fn holds<W: Walk>(walk: &mut W, claim: &[u8]) -> bool {
+pub(crate) fn holds<W: Walk>(walk: &mut W, claim: &[u8]) -> bool {
     claimed(walk, claim).unwrap_or(false)
 }

@@ -33,7 +33,7 @@ fn report_is(heap: Global, text: &[u8], expected: &[u8]) -> Result<bool, AllocEr
 }
 
 // Whether all that the line claims of its text holds.
-pub fn run(heap: Global, line: &[u8], tally: &mut Tally) -> Result<bool, AllocError> {
+pub(crate) fn run(heap: Global, line: &[u8], tally: &mut Tally) -> Result<bool, AllocError> {
     let mut claims = Pieces::new(line, b'|');
     let text = unescaped(heap, claims.next().unwrap_or(b""))?;
     let Ok(mut walk) = read(heap, &text) else {

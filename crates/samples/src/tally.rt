@@ -2,7 +2,7 @@
 use std::fmt;
 
 #[derive(Clone, Copy, Default)]
-pub struct Tally {
+pub(crate) struct Tally {
     pub plans: u64,
     pub claims: u64,
     pub faults: u64,
