@@ -1,5 +1,6 @@
-// How long a label to its row, a row to its label, and a draw with its print take: at one width on walks of few and of many
-// rows, and for one printer and for sixteen. With the word `untimed` it tells how many of the calls were right, and no times.
+// How long a label to its row, a row to its label, and a draw with its print take: on walks of few and of many rows, of one
+// width but for `changes`, and for one printer and for sixteen. With the word `untimed` it tells how many of the calls were
+// right, and no times.
 #![tactic(auto)]
 
 mod labels;
