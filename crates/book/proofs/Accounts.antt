@@ -19,6 +19,7 @@ holding hand = cond (is_some hand) 1 0
 pub hands_set : (lanes : List Lane) (i : ℕ) (x y : Lane) → i < length lanes → x ≡ get_or lanes i x → hands (set lanes i y) + holding x.hand ≡ hands lanes + holding y.hand
 hands_set lanes i x y h e = subst (λ (z : Lane). hands (set lanes i y) + holding z.hand ≡ hands lanes + holding y.hand) (sym e) (sum_by-set (λ lane. holding lane.hand) lanes i y x h)
 
+-- one lane in the place of another: what all lanes have left changes as these two do
 pub undrawn_set : (lanes : List Lane) (i : ℕ) (x y : Lane) → i < length lanes → x ≡ get_or lanes i x → undrawn (set lanes i y) + left x ≡ undrawn lanes + left y
 undrawn_set lanes i x y h e = subst (λ (z : Lane). undrawn (set lanes i y) + left z ≡ undrawn lanes + left y) (sym e) (sum_by-set left lanes i y x h)
 
@@ -71,6 +72,7 @@ pub record Drawn (lanes lanes' : List Lane) : Type 0 where
   pub in_hands : hands lanes' ≡ hands lanes
   pub in_lanes : undrawn lanes' + 1 ≡ undrawn lanes
 
+-- one label less in a lane is one label less in all
 pub drawn : (lanes : List Lane) (i : ℕ) (x y : Lane) → i < length lanes → x ≡ get_or lanes i x → y.hand ≡ x.hand → left y + 1 ≡ left x → Drawn lanes (set lanes i y)
 drawn lanes i x y h at same less =
     let counts = hands_set lanes i x y h at in

@@ -73,12 +73,14 @@ from_lane lanes lanes' lanes'' less more = record {
 empty_read : (lanes : List Lane) (i : ℕ) (x : Lane) → i < length lanes → (lane_at lanes i).hand ≡ None → x ≡ get_or lanes i x → x.hand ≡ None
 empty_read lanes i x h empty at = sym (ap (λ (z : Lane). z.hand) (lane_read lanes i x h at)) ∙ empty
 
+-- the oldest waiting label goes into an empty hand
 given_oldest : (label : ℕ) (rest : List ℕ) (lanes : List Lane) (i : ℕ) (x : Lane) → i < length lanes → (lane_at lanes i).hand ≡ None → x ≡ get_or lanes i x →
     Given (label ∷ rest) rest lanes (set lanes i (rehanded x (Some label)))
 given_oldest label rest lanes i x h empty at =
     let more = filled lanes i label x h at (empty_read lanes i x h empty at) in
     record { in_hands = omega arith; elsewhere = omega arith; outside = λ enough. omega (arith, length-set lanes i (rehanded x (Some label))) }
 
+-- the first label of the own lane goes into an empty hand
 given_first : (label : ℕ) (lanes : List Lane) (i : ℕ) (x : Lane) → i < length lanes → 0 < left (lane_at lanes i) → (lane_at lanes i).hand ≡ None →
     x ≡ get_or (without_first i lanes) i x → Given [] [] lanes (set (without_first i lanes) i (rehanded x (Some label)))
 given_first label lanes i x h some empty at =
@@ -89,6 +91,7 @@ given_first label lanes i x h some empty at =
     let more = filled (without_first i lanes) i label x within at (empty_read (without_first i lanes) i x within (same ∙ empty) at) in
     from_lane lanes (without_first i lanes) (set (without_first i lanes) i (rehanded x (Some label))) less more
 
+-- the last label of a lane goes into an empty hand
 given_last : (label j : ℕ) (lanes : List Lane) (i : ℕ) (x : Lane) → i < length lanes → j < length lanes → 0 < left (lane_at lanes j) → (lane_at lanes i).hand ≡ None →
     x ≡ get_or (without_last j lanes) i x → Given [] [] lanes (set (without_last j lanes) i (rehanded x (Some label)))
 given_last label j lanes i x h known some empty at =
@@ -104,6 +107,7 @@ abbrev GivenFrom : List ℕ → List Lane → ℕ → ℕ → Lane → Source �
 GivenFrom waiting lanes i label x source =
     x ≡ get_or (lanes_after source lanes) i x → Given waiting (waiting_after source waiting) lanes (set (lanes_after source lanes) i (rehanded x (Some label)))
 
+-- wherever a label comes from, the hand that gets it keeps the counts right
 pub given : (waiting : List ℕ) (lanes : List Lane) (i : ℕ) (d : Draw) (x : Lane) → i < length lanes → (lane_at lanes i).hand ≡ None → Drew waiting lanes i d →
     GivenFrom waiting lanes i d.label x d.from
 given waiting lanes i d x h empty (oldest rest e from) =

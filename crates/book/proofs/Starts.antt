@@ -19,6 +19,7 @@ start_of_first n k = ap (λ m. m / k) (zero-mul n) ∙ zero-div k
 pub start_of_all : (n k : ℕ) → 0 < k → lane_start n k k ≡ n
 start_of_all n k some = mul-div_right n some
 
+-- and none begins behind it
 pub start_le : (n k i : ℕ) → 0 < k → i ≤ k → lane_start n k i ≤ n
 start_le n k i some h = div-le_of_le-mul k (mul-le-mul_right n h)
 
@@ -34,6 +35,7 @@ undrawn_below n k (suc j) some =
 pub undrawn_opened : (n k : ℕ) → 0 < k → undrawn (opened_lanes n k) ≡ n
 undrawn_opened n k some = undrawn_below n k k some ∙ start_of_all n k some
 
+-- no hand of the first j printers holds a label
 hands_below : (n k j : ℕ) → hands (map (opened_lane n k) (range_with_len 0 j)) ≡ 0
 hands_below n k zero = refl
 hands_below n k (suc j) =
@@ -41,6 +43,7 @@ hands_below n k (suc j) =
     (let more = sum_by-map-range_with_len_more (λ lane. holding lane.hand) (opened_lane n k) 0 j j (omega arith) in
     omega (arith, more, hands_below n k j))
 
+-- no hand holds a label
 pub hands_opened : (n k : ℕ) → hands (opened_lanes n k) ≡ 0
 hands_opened n k = hands_below n k k
 

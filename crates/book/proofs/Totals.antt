@@ -71,6 +71,7 @@ count_passed p l (x ∷ xs) passes =
     ))
     (cases_Bool (p x))
 
+-- a filter drops every l that it does not pass
 pub count_dropped : (p : ℕ → Bool) (l : ℕ) (xs : List ℕ) → p l ≡ false → count_by (λ x. eqb x l) (filter p xs) ≡ 0
 count_dropped p l [] fails = refl
 count_dropped p l (x ∷ xs) fails =

@@ -74,6 +74,7 @@ taken s i (Ok label) (Some d) = record {
 taken s i (Ok label) None = s
 taken s i (Err refusal) d = s
 
+-- what a `take` leaves, accepted or refused
 abbrev pub after_take : State → ℕ → List ℕ → State
 after_take s i tray = taken s i (takes s i tray) (next_draw s.waiting s.lanes i)
 
@@ -82,6 +83,7 @@ abbrev pub written : {E : Type 0} → Meaning → ℕ → Result ℕ E → List 
 written m width (Ok label) tray = row m label ++ drop width tray
 written m width (Err refusal) tray = tray
 
+-- the tray after a `take`
 abbrev pub tray_after_take : State → ℕ → List ℕ → List ℕ
 tray_after_take s i tray = written s.walk s.walk.width (takes s i tray) tray
 
@@ -117,6 +119,7 @@ abbrev pub spoilt : State → ℕ → Result ℕ BookRefusal → State
 spoilt s i (Ok label) = record { walk = s.walk; lanes = with_hand i None s.lanes; waiting = s.waiting ++ label ∷ []; bench = s.bench }
 spoilt s i (Err refusal) = s
 
+-- what a `spoiled` leaves, accepted or refused
 abbrev pub after_spoiled : State → ℕ → State
 after_spoiled s i = spoilt s i (spoils s i)
 
@@ -130,6 +133,7 @@ abbrev pub after_row : State → ℕ → List ℕ → State
 after_row s label tray =
     cond (is_ok (shows s label tray)) (record { walk = standing s.walk label; lanes = s.lanes; waiting = s.waiting; bench = s.bench }) s
 
+-- the tray after a `row`
 abbrev pub tray_after_row : State → ℕ → List ℕ → List ℕ
 tray_after_row s label tray = written s.walk s.walk.width (shows s label tray) tray
 

@@ -23,10 +23,12 @@ pub data Answer : Type 0 where
   four : Counts → Answer
   refusal : BookRefusal → Answer
 
+-- a number or a refusal, as an answer
 abbrev pub numbered : Result ℕ BookRefusal → Answer
 numbered (Ok n) = number n
 numbered (Err e) = refusal e
 
+-- a label with its tray or a refusal, as an answer
 abbrev pub showing : Result ℕ BookRefusal → List ℕ → Answer
 showing (Ok label) tray = shown label tray
 showing (Err e) tray = refusal e

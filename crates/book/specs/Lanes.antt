@@ -3,6 +3,7 @@ use Rattle.std.specs.Prelude.{ℕ, suc, ◌+◌, ◌-◌, ◌*◌, ◌/◌, max,
 use Rattle.std.specs.List.{range_with_len}
 use Rattle.book.specs.declared.lane.Lane.{Lane}
 
+-- an empty lane and an empty hand, for numbers that no printer has
 abbrev pub no_lane : Lane
 no_lane = record { next = 0; end = 0; hand = None }
 
@@ -65,5 +66,6 @@ lane_start n k i = (i * n) / k
 abbrev pub opened_lane : ℕ → ℕ → ℕ → Lane
 opened_lane n k i = record { next = lane_start n k i; end = lane_start n k (i + 1); hand = None }
 
+-- the lanes of all k printers on opening
 abbrev pub opened_lanes : ℕ → ℕ → List Lane
 opened_lanes n k = map (opened_lane n k) (range_with_len 0 k)

@@ -13,24 +13,28 @@ pub data Move : Type 0 where
   returns : ℕ → ℕ → Move
   nothing : Move
 
+-- a `take` that answers a label draws it
 abbrev pub take_moves : ℕ → Answer → Move
 take_moves i (shown label tray) = draws i label
 take_moves i (number n) = nothing
 take_moves i (four c) = nothing
 take_moves i (refusal e) = nothing
 
+-- a `printed` that answers a label puts the scanned row on the bench
 abbrev pub printed_moves : ℕ → Row → Answer → Move
 printed_moves i scanned (number label) = puts i scanned
 printed_moves i scanned (shown label tray) = nothing
 printed_moves i scanned (four c) = nothing
 printed_moves i scanned (refusal e) = nothing
 
+-- a `spoiled` that answers a label returns it
 abbrev pub spoiled_moves : ℕ → Answer → Move
 spoiled_moves i (number label) = returns i label
 spoiled_moves i (shown label tray) = nothing
 spoiled_moves i (four c) = nothing
 spoiled_moves i (refusal e) = nothing
 
+-- what a call with its answer moves
 abbrev pub move : Call → Answer → Move
 move (Take i tray) a = take_moves i a
 move (Printed i scanned) a = printed_moves i scanned a

@@ -14,10 +14,12 @@ use Rattle.book.specs.Places.{Move, hand, queue, bench, lane_left, waiting_count
 use Rattle.book.specs.declared.refusal.BookRefusal.{BookRefusal}
 use Rattle.book.specs.declared.refusal.BookRefusal.TheVariants.{Row, UnknownPrinter, HandFull, NothingLeft, HandEmpty, NotAllPrinted}
 
+-- the first of a list, if there is one
 abbrev pub first_of : List ℕ → Option ℕ
 first_of [] = None
 first_of (x ∷ xs) = Some x
 
+-- and the last
 abbrev pub last_of : List ℕ → Option ℕ
 last_of xs = first_of (reverse xs)
 
@@ -34,6 +36,7 @@ next_label n k h i = option_or (first_of (queue h)) (option_or (first_of (lane_l
 abbrev pub with_row : Meaning → List ℕ → ℕ → Answer
 with_row m tray l = shown l (meaning.row m l ++ drop m.width tray)
 
+-- the label with its row, or the refusal where there is none left
 abbrev pub giving : Meaning → List ℕ → Option ℕ → Answer
 giving m tray None = refusal NothingLeft
 giving m tray (Some l) = with_row m tray l

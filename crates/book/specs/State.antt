@@ -13,6 +13,7 @@ pub record State : Type 0 where
   pub waiting : List ℕ
   pub bench : ℕ
 
+-- how many printers the book has
 abbrev pub printers : State → ℕ
 printers s = length s.lanes
 

@@ -9,12 +9,15 @@ use Rattle.book.specs.Places.{Move, moves, hand, waits, bench, lane_left, waitin
 use Rattle.book.specs.Rules.{rule}
 use Rattle.book.specs.State.{State, printers}
 
+-- what a yes counts
 abbrev pub one_if : Bool → ℕ
 one_if b = cond b 1 0
 
+-- each of two facts follows from the other
 abbrev pub ExactlyWhen : Type 0 → Type 0 → Type 0
 ExactlyWhen P Q = (P → Q) × (Q → P)
 
+-- the call was refused
 abbrev pub Refused : Answer → Type 0
 Refused (number n) = ⊥
 Refused (shown l tray) = ⊥
@@ -30,6 +33,7 @@ abbrev pub holds : ℕ → Option ℕ → Bool
 holds l None = false
 holds l (Some held) = held == l
 
+-- in how many hands a label is
 abbrev pub in_hands : ℕ → List Move → ℕ → ℕ
 in_hands k h l = count_by (λ i. holds l (hand h i)) (range_with_len 0 k)
 

@@ -17,6 +17,7 @@ cause_number (Part Form) = Some 14
 cause_number (Part (Making fault)) = making_number fault
 cause_number (Join fault) = join_number fault
 
+-- who found the fault: the reader of the text, the maker of a kind, or that of a join
 abbrev pub cause_layer : Cause → Layer
 cause_layer Text = TextLayer
 cause_layer Names = TextLayer

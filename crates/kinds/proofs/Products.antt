@@ -50,6 +50,7 @@ multiplied_each count (x ∷ xs) few all =
 abbrev inclusive_steps : RangeInclusive ℕ → Option ℕ → RangeInclusive ℕ → Type 0
 inclusive_steps = range_inclusive_steps (λ a b. b - a) (λ a b. b ≡ a + 1)
 
+-- how many numbers a range with its end has left
 abbrev inclusive_left : RangeInclusive ℕ → ℕ
 inclusive_left = range_inclusive_left (λ a b. b - a)
 

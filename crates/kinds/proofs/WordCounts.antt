@@ -23,6 +23,7 @@ pub words_some : (counts : List ℕ) → 0 < length (words counts)
 words_some counts =
     ⊎_elim (λ e. absurd (omega (arith, factorial_some (sum counts), orders counts, ap (λ n. n * factorials counts) e, zero-mul (factorials counts)))) (λ h. omega arith) (cases_eq (length (words counts)) 0)
 
+-- one more count is one more factor
 factorials_push : (xs : List ℕ) (c : ℕ) → factorials (xs ++ (c ∷ [])) ≡ factorials xs * factorial c
 factorials_push [] c = omega arith
 factorials_push (x ∷ xs) c = ap (λ n. factorial x * n) (factorials_push xs c) ∙ sym (mul_assoc (factorial x) (factorials xs) (factorial c))

@@ -54,6 +54,7 @@ turned_sweep false v r j h = sweep_at v r j h
 abbrev pub position : ℕ → ℕ → ℕ → ℕ
 position n i j = cond (odd i) j (n - j)
 
+-- it stands at one of the n + 1 positions
 pub position_below : (n i j : ℕ) → j ≤ n → position n i j ≤ n
 position_below n i j h = grind (arith, nat_tests)
 

@@ -73,6 +73,7 @@ door_some (suc n) (suc t) h = simp (length-append, length-map, length-reverse) (
 abbrev pub zeros_ones : ℕ → ℕ → Row
 zeros_ones n t = replicate (n - t) 0 ++ replicate t 1
 
+-- the last row of a list
 abbrev pub last_row : List Row → Row
 last_row rows = row_at rows (length rows - 1)
 

@@ -10,6 +10,7 @@ use Rattle.walk.specs.declared.making.MakingFault.{MakingFault}
 use Rattle.walk.specs.declared.making.MakingFault.TheVariants.{OutOfRange, TooManyRows}
 use Rattle.kinds.specs.declared.kind.Kind.{Kind}
 
+-- a kind as a walk
 abbrev pub kind_meaning : Kind → Meaning
 kind_meaning k = record { rows = rows_of k.shape; width = width_of k.shape; place = k.place; steady = steady_of k.shape }
 
@@ -21,9 +22,11 @@ making fit rows width steady = cond fit (cond (nat_le (length rows) 4294967295) 
 abbrev pub radices_fit : ℕ → List ℕ → Bool
 radices_fit n list = nat_le n 32 && (length list == n && all_between 1 255 list)
 
+-- what making `digits` gives
 abbrev pub digits_made : ℕ → List ℕ → Result Meaning MakingFault
 digits_made n list = making (radices_fit n list) (digits list) n false
 
+-- what making `gray` gives
 abbrev pub gray_made : ℕ → List ℕ → Result Meaning MakingFault
 gray_made n list = making (radices_fit n list) (gray list) n true
 
@@ -31,6 +34,7 @@ gray_made n list = making (radices_fit n list) (gray list) n true
 abbrev pub stocks_fit : ℕ → ℕ → List ℕ → Bool
 stocks_fit n t list = nat_le n 32 && (nat_le t 32 && (length list == n && all_between 0 32 list))
 
+-- what making `stock` gives
 abbrev pub stock_made : ℕ → ℕ → List ℕ → Result Meaning MakingFault
 stock_made n t list = making (stocks_fit n t list) (stock list t) n false
 
@@ -38,9 +42,11 @@ stock_made n t list = making (stocks_fit n t list) (stock list t) n false
 abbrev pub choice_fits : ℕ → ℕ → Bool
 choice_fits n t = nat_le n 32 && nat_le t 32
 
+-- what making `choose` gives
 abbrev pub choose_made : ℕ → ℕ → Result Meaning MakingFault
 choose_made n t = making (choice_fits n t) (choose n t) n false
 
+-- what making `door` gives
 abbrev pub door_made : ℕ → ℕ → Result Meaning MakingFault
 door_made n t = making (choice_fits n t) (door n t) n true
 
@@ -48,8 +54,10 @@ door_made n t = making (choice_fits n t) (door n t) n true
 abbrev pub counts_fit : ℕ → List ℕ → Bool
 counts_fit n list = nat_le n 32 && (length list == n && nat_le (sum list) 32)
 
+-- what making `words` gives
 abbrev pub words_made : ℕ → List ℕ → Result Meaning MakingFault
 words_made n list = making (counts_fit n list) (words list) (sum list) false
 
+-- what making `changes` gives; n is up to 32, and beyond 12 there are too many rows
 abbrev pub changes_made : ℕ → Result Meaning MakingFault
 changes_made n = making (nat_le n 32) (changes n) n true

@@ -62,6 +62,7 @@ abbrev pub words_of : ℕ → List ℕ → List Row
 words_of zero counts = [] ∷ []
 words_of (suc n) counts = branches (length counts) (λ v. cond (slice_index counts v == 0) [] (words_of n (one_less counts v)))
 
+-- each word has as many values as the counts say together
 abbrev pub words : List ℕ → List Row
 words counts = words_of (sum counts) counts
 

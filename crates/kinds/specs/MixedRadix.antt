@@ -40,6 +40,7 @@ some_rows (l ∷ ls) hold =
     let first = first_level l ls hold in
     omega (arith, some_rows ls first.rest, mul-le-mul_right (product (radices ls)) first.some)
 
+-- the rows behind a first value v
 abbrev branch : Bool → List ℕ → ℕ → List Row
 branch reflected rs v = turned (reflected && odd v) (mixed reflected rs)
 
@@ -48,6 +49,7 @@ mixed_branches : (reflected : Bool) (radix : ℕ) (rs : List ℕ) → mixed refl
 mixed_branches true radix rs = refl
 mixed_branches false radix rs = refl
 
+-- behind each first value there are as many rows
 branch_length : (reflected : Bool) (rs : List ℕ) (v : ℕ) → length (branch reflected rs v) ≡ product rs
 branch_length reflected rs v = length_turned (reflected && odd v) (mixed reflected rs) ∙ mixed_length reflected rs
 
@@ -85,6 +87,7 @@ module _ (reflected : Bool) (l : Level) (ls : List Level) (hold : levels_hold (l
         ),
       )
 
+-- a level for numbers that no place has
 abbrev no_level : Level
 no_level = record { radix = 0; below = 0 }
 

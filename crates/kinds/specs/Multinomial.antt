@@ -15,10 +15,12 @@ abbrev pub factorials : List ℕ → ℕ
 factorials [] = 1
 factorials (c ∷ counts) = factorial c * factorials counts
 
+-- a factorial is not 0
 pub factorial_some : (n : ℕ) → 0 < factorial n
 factorial_some zero = omega arith
 factorial_some (suc n) = mul-lt 0 0 (suc n) (factorial n) (omega arith) (factorial_some n)
 
+-- nor is a product of factorials
 pub factorials_some : (counts : List ℕ) → 0 < factorials counts
 factorials_some [] = omega arith
 factorials_some (c ∷ counts) = mul-lt 0 0 (factorial c) (factorials counts) (factorial_some c) (factorials_some counts)

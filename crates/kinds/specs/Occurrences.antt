@@ -10,9 +10,11 @@ use Rattle.kinds.specs.Laws.{occurrences}
 abbrev pub counts_as : ℕ → ℕ → ℕ
 counts_as v x = cond (x == v) 1 0
 
+-- the value itself counts 1
 pub counts_same : (v : ℕ) → counts_as v v ≡ 1
 counts_same v = rw (eq-eqb v v refl)
 
+-- another value counts 0
 pub counts_other : (v x : ℕ) → (x ≢ v) → counts_as v x ≡ 0
 counts_other v x h = rw (ne_eqb x v h)
 

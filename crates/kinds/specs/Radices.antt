@@ -46,6 +46,7 @@ pub radices_of_levels : (rs : List ℕ) → radices (levels_of rs) ≡ rs
 radices_of_levels [] = refl
 radices_of_levels (r ∷ rs) = ap (λ ns. r ∷ ns) (radices_of_levels rs)
 
+-- there is a level for each radix
 pub length_levels : (rs : List ℕ) → length (levels_of rs) ≡ length rs
 length_levels [] = refl
 length_levels (r ∷ rs) = ap suc (length_levels rs)

@@ -92,6 +92,7 @@ pub ones_rest : (reflected : Bool) (most : ℕ) (stocks : List ℕ) → Ones ref
 ones_rest true most stocks ones = (and_parts (nat_le most 1) _ (and_parts (nat_le 1 most) _ ones).1).1
 ones_rest false most stocks ones = refl
 
+-- a bin for numbers that no place has
 abbrev no_bin : Bin
 no_bin = record { most = 0; ways = [] }
 

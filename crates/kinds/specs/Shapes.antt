@@ -17,6 +17,7 @@ abbrev pub reflects : Order → Bool
 reflects Rising = false
 reflects Reflected = true
 
+-- the radices of levels
 abbrev pub radices : List Level → List ℕ
 radices levels = map (λ (l : Level). l.radix) levels
 
@@ -52,6 +53,7 @@ rows_of (Sums bins t order) = filled (reflects order) (mosts (vec_items bins)) t
 rows_of (Words counts) = words (vec_items counts)
 rows_of (Changes n) = changes n
 
+-- how many values the rows of a shape have
 abbrev pub width_of : Shape → ℕ
 width_of (Radices levels order) = length (vec_items levels)
 width_of (Sums bins t order) = length (vec_items bins)

@@ -71,6 +71,7 @@ swap_at front back a b =
     ∙ set_at (front ++ (b ∷ [])) b back a (length front + 1) size'
     ∙ append_assoc front (b ∷ []) (a ∷ back)
 
+-- rows with two values exchanged side by side are as the laws say it
 pub swap_exchange : (n : ℕ) {r s : Row} → length r ≡ n → Swap r s → Exchange n r s
 swap_exchange n wide w = (
   length w.front,

@@ -98,6 +98,7 @@ pub mosts_of_bins : (stocks : List ℕ) → mosts (bins_of stocks) ≡ stocks
 mosts_of_bins [] = refl
 mosts_of_bins (most ∷ stocks) = ap (λ rest. most ∷ rest) (mosts_of_bins stocks)
 
+-- there is a bin for each stock
 pub length_bins : (stocks : List ℕ) → length (bins_of stocks) ≡ length stocks
 length_bins [] = refl
 length_bins (most ∷ stocks) = ap suc (length_bins stocks)

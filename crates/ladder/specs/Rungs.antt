@@ -12,6 +12,7 @@ use Rattle.walk.proofs.Differences.{differences_first}
 use Rattle.ladder.specs.Ladder.{ladder_rows, ladder_meaning}
 use Rattle.ladder.specs.declared.Ladder.{Ladder}
 
+-- the row of one value
 abbrev rung : ℕ → Row
 rung v = v ∷ []
 

@@ -10,6 +10,7 @@ use Rattle.listing.specs.Texts.{told}
 numberless : (e : PlanFault) → LacksMemory e → is_some (cause_number e.cause) ≡ false
 numberless e lacks = ap (λ cause. is_some (cause_number cause)) lacks
 
+-- so a fault with a number is the one that the plan has
 fault_of_plan : (given : Result Meaning PlanFault) (e : PlanFault) → (given ≡ Err e) ⊎ LacksMemory e → is_some (cause_number e.cause) ≡ true → given ≡ Err e
 fault_of_plan given e says some =
     ⊎_elim (λ is. is) (λ lacks. absurd (let clash : ◌≡◌ {A = Bool} true false = sym some ∙ numberless e lacks in let never : ◌≡◌ {A = ℕ} 0 1 = cc in omega arith)) says

@@ -12,9 +12,11 @@ decimal_more m b some small few =
     let last : (10 * m + b) % 10 ≡ b = omega arith in
     decimal_step (10 * m + b) (omega arith) (omega arith) ∙ ap (λ n. decimal n ++ ((48 + (10 * m + b) % 10) ∷ [])) front ∙ ap (λ d. decimal m ++ ((48 + d) ∷ [])) last
 
+-- the two digits of a number below 100
 decimal_two : (a b : ℕ) → 0 < a → a < 10 → b < 10 → decimal (10 * a + b) ≡ (48 + a) ∷ (48 + b) ∷ []
 decimal_two a b some small last = decimal_more a b some last (omega arith) ∙ ap (λ ds. ds ++ ((48 + b) ∷ [])) (decimal_digit a small)
 
+-- the three digits of a number below 1000
 decimal_three : (a b d : ℕ) → 0 < a → a < 10 → b < 10 → d < 10 → decimal (10 * (10 * a + b) + d) ≡ (48 + a) ∷ (48 + b) ∷ (48 + d) ∷ []
 decimal_three a b d some small more last =
     decimal_more (10 * a + b) d (omega arith) last (omega arith) ∙ ap (λ ds. ds ++ ((48 + d) ∷ [])) (decimal_two a b some small more)
@@ -26,6 +28,7 @@ read_two a b some small last = grind (arith, nat_tests)
 read_three : (a b d : ℕ) → 0 < a → a < 10 → b < 10 → d < 10 → number_value ((48 + a) ∷ (48 + b) ∷ (48 + d) ∷ []) ≡ Some (10 * (10 * a + b) + d)
 read_three a b d some small more last = grind (arith, nat_tests)
 
+-- one digit is read as its value
 read_one : (a : ℕ) → a < 10 → number_value ((48 + a) ∷ []) ≡ Some a
 read_one a small = grind (arith, nat_tests)
 
@@ -34,9 +37,11 @@ only_some : (test : Bool) (v n : ℕ) → only test v ≡ Some n → (test ≡ t
 only_some true v n is = (refl, cc)
 only_some false v n is = absurd (let never : ◌≡◌ {A = ℕ} 0 1 = cc in omega arith)
 
+-- a digit is a byte from 48 to 57
 digit_bounds : (b : ℕ) → digit b ≡ true → (48 ≤ b) × (b ≤ 57)
 digit_bounds b is = let both = and_parts _ _ is in (leb-true 48 b both.0, leb-true b 57 both.1)
 
+-- one that is not 0 is a byte from 49 on
 leading_bounds : (b : ℕ) → leading b ≡ true → (49 ≤ b) × (b ≤ 57)
 leading_bounds b is = let both = and_parts _ _ is in (leb-true 49 b both.0, leb-true b 57 both.1)
 
@@ -44,6 +49,7 @@ leading_bounds b is = let both = and_parts _ _ is in (leb-true 49 b both.0, leb-
 byte : (b : ℕ) → 48 ≤ b → b ≡ 48 + (b - 48)
 byte b low = omega arith
 
+-- a number below 1000 is read from its digits
 read_decimal : (n : ℕ) → n < 1000 → number_value (decimal n) ≡ Some n
 read_decimal n few =
     ⊎_elim
@@ -59,6 +65,7 @@ read_decimal n few =
     (cases_lt n 100))
     (cases_lt n 10)
 
+-- and from nothing else
 decimal_read : (bs : List ℕ) (n : ℕ) → number_value bs ≡ Some n → (n < 1000) × (bs ≡ decimal n)
 decimal_read [] n is = absurd (let never : ◌≡◌ {A = ℕ} 0 1 = cc in omega arith)
 decimal_read (a ∷ []) n is =
@@ -82,5 +89,6 @@ decimal_read (a ∷ b ∷ d ∷ []) n is =
     (omega (arith, told.1), (λ i. byte a (omega arith) i ∷ byte b second.0 i ∷ byte d last.0 i ∷ []) ∙ sym (decimal_three (a - 48) (b - 48) (d - 48) (omega arith) (omega arith) (omega arith) (omega arith)) ∙ ap decimal weighs)
 decimal_read (a ∷ b ∷ d ∷ e ∷ more) n is = absurd (let never : ◌≡◌ {A = ℕ} 0 1 = cc in omega arith)
 
+-- the numbers of a text are those below 1000, as they are written
 pub numbers_laws : NumbersLaws
 numbers_laws = record { written = read_decimal; only_so = decimal_read }

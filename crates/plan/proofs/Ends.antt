@@ -6,6 +6,7 @@ use Rattle.std.proofs.lemmas.Bool.{cond-true, le-leb}
 use Rattle.plan.specs.Format.{and_then, provided, body, plan_lines, lines_of_text}
 use Rattle.text.specs.Pieces.{pieces}
 
+-- what is made of a value that is there where a test holds
 mapped_provided : {X Y : Type 0} (f : X → Y) (t : Bool) (x : X) → option_map f (provided t (Some x)) ≡ provided t (Some (f x))
 mapped_provided f true x = refl
 mapped_provided f false x = refl
@@ -14,6 +15,7 @@ mapped_provided f false x = refl
 abbrev ended : ℕ → List ℕ → Bool
 ended n text = pointwise eqb (drop n text) (10 ∷ [])
 
+-- a test that holds adds nothing
 and_end : (t : Bool) (front : Option (List ℕ)) → provided t front ≡ provided (t && true) front
 and_end true front = refl
 and_end false front = refl

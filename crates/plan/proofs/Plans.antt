@@ -14,6 +14,7 @@ use Rattle.plan.specs.Format.{and_then, provided, then, body, Lines, plan_lines,
 use Rattle.plan.specs.Reading.{LacksMemory, Gives}
 use Rattle.text.specs.Pieces.{pieces}
 
+-- a plan has up to three parts
 few_lines : (ps : List (List ℕ)) (lines : Lines) → Some lines ≡ plan_lines ps → length lines.parts ≤ 3
 few_lines [] lines is = absurd (let never : ◌≡◌ {A = ℕ} 0 1 = cc in omega arith)
 few_lines (names ∷ parts) lines is = go (leb 1 (length parts)) (leb (length parts) 3) refl is

@@ -2,6 +2,7 @@
 use Rattle.std.proofs.Common.{◌≡◌, ℕ, Bool, true, false, not, List, sym, refl, ap, ◌∙◌}
 use Rattle.std.specs.Str.{bytes_eq}
 
+-- a test denied twice is the test
 not_not : (t : Bool) → not (not t) ≡ t
 not_not true = refl
 not_not false = refl

@@ -65,10 +65,12 @@ pub record Lines : Type 0 where
 abbrev pub one_to_three : List (List ℕ) → Bool
 one_to_three parts = nat_le 1 (length parts) && nat_le (length parts) 3
 
+-- the names line, and one to three parts
 abbrev pub plan_lines : List (List ℕ) → Option Lines
 plan_lines [] = None
 plan_lines (names ∷ parts) = provided (one_to_three parts) (Some (record { names = names; parts = parts }))
 
+-- the lines of a text that is not too long and whose last line is ended
 abbrev pub lines_of_text : List ℕ → Option Lines
 lines_of_text text = provided (nat_le (length text) 4096) (and_then (body text) (λ bytes. plan_lines (pieces 10 bytes)))
 
@@ -92,6 +94,7 @@ four_fields (kind ∷ n ∷ t ∷ list ∷ fifth ∷ more) = None
 
 -- Kinds, numbers and dashes
 
+-- the word for a kind
 abbrev pub word_of : KindName → List ℕ
 word_of Digits = codes "digits"
 word_of Gray = codes "gray"
@@ -101,9 +104,11 @@ word_of Stock = codes "stock"
 word_of Words = codes "words"
 word_of Changes = codes "changes"
 
+-- the kind that a word names
 abbrev pub kind_named : List ℕ → Option KindName
 kind_named word = named_among word_of (Digits ∷ Gray ∷ Choose ∷ Door ∷ Stock ∷ Words ∷ Changes ∷ []) word
 
+-- whether t is a number for the kind
 abbrev pub takes_t : KindName → Bool
 takes_t Digits = false
 takes_t Gray = false
@@ -113,6 +118,7 @@ takes_t Stock = true
 takes_t Words = false
 takes_t Changes = false
 
+-- whether the list is numbers for the kind, where n is not 0
 abbrev pub takes_list : KindName → Bool
 takes_list Digits = true
 takes_list Gray = true
@@ -122,6 +128,7 @@ takes_list Stock = true
 takes_list Words = true
 takes_list Changes = false
 
+-- what stands where there is no number
 abbrev pub dash : List ℕ
 dash = codes "-"
 
@@ -145,14 +152,17 @@ abbrev pub head_with : KindName → ℕ → Fields → Option Head
 head_with kind n fields =
     and_then (t_value (takes_t kind) fields.t) (λ t. option_map (λ list. record { kind = kind; n = n; t = t; entries = list }) (entries (takes_list kind && not (n == 0)) fields.list))
 
+-- what the fields ask for: the kind tells which t and which list there is to be
 abbrev pub head_of_fields : Fields → Option Head
 head_of_fields fields = and_then (kind_named fields.kind) (λ kind. and_then (number_value fields.n) (λ n. head_with kind n fields))
 
+-- what the line of a part asks for
 abbrev pub head_of_line : List ℕ → Option Head
 head_of_line line = and_then (four_fields (pieces 44 line)) head_of_fields
 
 -- Making
 
+-- what making the kind with these numbers gives
 abbrev pub kind_made : KindName → ℕ → ℕ → List ℕ → Result Meaning MakingFault
 kind_made Digits n t list = digits_made n list
 kind_made Gray n t list = gray_made n list
@@ -167,12 +177,15 @@ abbrev pub making : {X : Type 0} → Result X MakingFault → Result X PartFault
 making (Ok x) = Ok x
 making (Err e) = Err (Making e)
 
+-- a number of the list, or a fault of form
 abbrev pub entry_read : List ℕ → Result ℕ PartFault
 entry_read entry = ok_or (number_value entry) Form
 
+-- what a part gives, once its list is read
 abbrev pub head_made : Head → List ℕ → Result Meaning PartFault
 head_made head list = making (kind_made head.kind head.n head.t list)
 
+-- what the line of a part gives
 abbrev pub part_made : List ℕ → Result Meaning PartFault
 part_made line = then (ok_or (head_of_line line) Form) (λ head. then (each entry_read head.entries) (head_made head))
 
@@ -181,10 +194,12 @@ pub record Line : Type 0 where
   pub number : ℕ
   pub bytes : List ℕ
 
+-- lines that follow one another, from that number on
 abbrev pub numbered : ℕ → List (List ℕ) → List Line
 numbered number [] = []
 numbered number (line ∷ more) = record { number = number; bytes = line } ∷ numbered (suc number) more
 
+-- what the line of a part gives, its fault with its number
 abbrev pub line_made : Line → Result Meaning PlanFault
 line_made line = on_line PartCause line.number (part_made line.bytes)
 
@@ -206,6 +221,7 @@ joins swing a b c = then (on_line JoinCause 3 (join_made swing b c)) (λ below. 
 abbrev pub joined_parts : Meaning → Meaning → Meaning → Result Meaning PlanFault
 joined_parts a b c = joins (a.steady && (b.steady && c.steady)) a b c
 
+-- the first three of the parts, joined
 abbrev pub all_joined : List Meaning → Result Meaning PlanFault
 all_joined parts = joined_parts (slice_index_or parts 0 blank) (slice_index_or parts 1 blank) (slice_index_or parts 2 blank)
 
@@ -213,5 +229,6 @@ all_joined parts = joined_parts (slice_index_or parts 0 blank) (slice_index_or p
 abbrev pub plan_of_lines : Lines → Result Meaning PlanFault
 plan_of_lines lines = cond (bytes_eq lines.names (codes "kind,n,t,list")) (then (parts_made lines.parts) all_joined) (Err (fault Names 1))
 
+-- the walk of a text, or its first fault
 abbrev pub plan_of : List ℕ → Result Meaning PlanFault
 plan_of text = then (ok_or (lines_of_text text) (fault Text 0)) plan_of_lines

@@ -13,6 +13,7 @@ digit b = nat_le 48 b && nat_le b 57
 abbrev pub leading : ℕ → Bool
 leading b = nat_le 49 b && nat_le b 57
 
+-- the value of a digit
 abbrev pub digit_value : ℕ → Option ℕ
 digit_value b = only (digit b) (b - 48)
 

@@ -16,6 +16,7 @@ use Rattle.plan.specs.declared.part.Head.{Head as HeadHeld}
 use Rattle.text.specs.Coming.{coming}
 use Rattle.plan.specs.Format.{Fields, Lines, Head}
 
+-- the bytes of the lines
 abbrev pub lines_read : LinesHeld → Lines
 lines_read l = record { names = l.names.bytes.now; parts = coming l.parts }
 
@@ -27,12 +28,15 @@ fields_read f = record { kind = f.kind.bytes.now; n = f.n.bytes.now; t = f.t.byt
 abbrev pub OnLine : ℕ → FieldsHeld → Type 0
 OnLine line f = (f.kind.line ≡ line) × (f.n.line ≡ line) × (f.t.line ≡ line) × (f.list.line ≡ line)
 
+-- what a part asks for, its list as it is still to be read
 abbrev pub head_read : HeadHeld → Head
 head_read h = record { kind = h.kind; n = h.n; t = h.t; entries = coming h.entries }
 
+-- kinds as walks
 abbrev pub meanings : List Kind → List Meaning
 meanings kinds = map kind_meaning kinds
 
+-- a plan as a walk
 abbrev pub plan_meaning : Join Kind (Join Kind Kind) → Meaning
 plan_meaning plan = join_meaning kind_meaning (join_meaning kind_meaning kind_meaning) plan
 

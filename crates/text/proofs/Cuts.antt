@@ -15,6 +15,7 @@ first_cut at (b ∷ bs) zero inside here before = cond-true _ _ _ (eq-eqb b at h
 first_cut at (b ∷ bs) (suc i) inside here before =
     cond-false _ _ _ (before 0 (omega arith)) ∙ ap (grown b) (first_cut at bs i (omega arith) here (λ k h. before (suc k) (omega arith)))
 
+-- the first occurrence ends the first piece
 pub pieces_cut : (at : ℕ) (bs : List ℕ) (i : ℕ) → Some i ≡ position (λ b. eqb b at) bs → pieces at bs ≡ take i bs ∷ pieces at (take (length bs - (i + 1)) (drop (i + 1) bs))
 pieces_cut at bs i found =
     let is = position-Some (λ b. eqb b at) bs i 0 (sym found) in
@@ -29,6 +30,7 @@ none_cut at (b ∷ bs) k none =
     (λ other. cond-false _ _ _ other ∙ ap (grown b) (none_cut at bs (k + 1) (sym (cond-false _ _ _ other) ∙ none)))
     (cases_Bool (eqb b at))
 
+-- with no occurrence there is one piece
 pub pieces_whole : (at : ℕ) (bs : List ℕ) → None ≡ position (λ b. eqb b at) bs → pieces at bs ≡ bs ∷ []
 pieces_whole at bs none = none_cut at bs 0 (sym (position_from-zero (λ b. eqb b at) bs) ∙ sym none)
 
@@ -38,6 +40,7 @@ rejoined_grown at b [] some = absurd (omega arith)
 rejoined_grown at b (p ∷ []) some = refl
 rejoined_grown at b (p ∷ q ∷ ps) some = refl
 
+-- another byte in front leaves a piece without it
 lacks_more : (at b : ℕ) (p : List ℕ) → (b ≡ at → ⊥) → LacksByte at p → (k : ℕ) → k < length (b ∷ p) → get_or (b ∷ p) k 0 ≡ at → ⊥
 lacks_more at b p other clear zero h e = other e
 lacks_more at b p other clear (suc k) h e = clear k (omega arith) e
@@ -47,6 +50,7 @@ clear_grown : (at b : ℕ) (ps : List (List ℕ)) → (b ≡ at → ⊥) → All
 clear_grown at b [] other clear = (lacks_more at b [] other (λ k h. absurd (omega arith)), tt)
 clear_grown at b (p ∷ ps) other clear = (lacks_more at b p other clear.0, clear.1)
 
+-- there is a piece at least
 some_grown : (b : ℕ) (ps : List (List ℕ)) → 0 < length (grown b ps)
 some_grown b [] = omega arith
 some_grown b (p ∷ ps) = omega arith

@@ -12,6 +12,7 @@ use Rattle.std.proofs.lemmas.Bool.{cases_Bool, MatchBool-at_true, MatchBool-at_f
 use Rattle.std.proofs.Math.Bool.{and-false}
 use Rattle.text.specs.Digits.{one_behind, digits_value, decimal_value}
 
+-- the value with one digit more behind it
 abbrev next : ℕ → ℕ → ℕ
 next value b = value * 10 + (b - 48)
 
@@ -53,6 +54,7 @@ at_number : {P : Bor ℕ → Type 0} (Q : ℕ → Type 0) (o : Option (Bor ℕ))
 at_number Q None n so is holds = absurd (let never : ◌≡◌ {A = ℕ} 0 1 = cc in omega arith)
 at_number Q (Some x) n so is holds = subst Q (let e : x.now ≡ n = cc in e) (so x holds)
 
+-- more digits never make the value smaller
 grows : (n : ℕ) (bs : List ℕ) → n ≤ fold next n bs
 grows n [] = omega arith
 grows n (b ∷ bs) = omega (arith, grows (next n b) bs)

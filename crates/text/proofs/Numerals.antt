@@ -7,6 +7,7 @@ use Rattle.std.proofs.lemmas.Str.Parse.{IsNumeralModel, numerals_by_fold}
 use Rattle.std.proofs.lemmas.Bool.{and_parts, and_from, leb-true, le-leb, cond-true}
 use Rattle.text.specs.Digits.{digits_value, decimal_value, DecimalsLaws}
 
+-- digits and their value, as the library has them too
 own : IsNumeralModel (λ ds. all_ascii_digits ds ≡ true) digits_value
 own = numerals_by_fold _ (search rules) (fold (λ value b. value * 10 + (b - 48))) (search rules)
 
@@ -18,6 +19,7 @@ decimal_written n low =
     cond-true _ _ _ (and_from _ _ (le-leb 1 (length (decimal n)) (decimal_nonempty n fits)) (and_from _ _ (digits_decimal own n fits) (le-leb (digits_value (decimal n)) 4294967295 (omega (arith, value)))))
     ∙ ap Some value
 
+-- what a test lets through is there, and is the same
 kept : (t : Bool) (v n : ℕ) → cond t (Some v) None ≡ Some n → (t ≡ true) × (v ≡ n)
 kept true v n is = (refl, cc)
 kept false v n is = absurd (let never : ◌≡◌ {A = ℕ} 0 1 = cc in omega arith)
@@ -33,5 +35,6 @@ decimal_only bs n lead is =
     let fits : digits_value bs < 2 ^ 64 = omega arith in
     (omega arith, sym (decimal-digits_value own bs rest.0 (leb-true 1 (length bs) some.0) lead fits) ∙ ap decimal value)
 
+-- the digits of a number, both ways
 pub decimals_laws : DecimalsLaws
 decimals_laws = record { written = decimal_written; only_so = decimal_only }

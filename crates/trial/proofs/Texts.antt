@@ -16,6 +16,7 @@ answer_by_parts (Refused e) = refl
 answer_by_parts (NotOpened fault) = refl
 answer_by_parts Unknown = refl
 
+-- a line in whatever way its texts are put together
 grouped : (o l c s d r e : List ℕ) → (o ++ l) ++ (((c ++ (s ++ d)) ++ r) ++ e) ≡ o ++ (l ++ (c ++ ((s ++ (d ++ r)) ++ e)))
 grouped o l c s d r e = simp append_assoc
 

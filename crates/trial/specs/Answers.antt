@@ -8,18 +8,23 @@ use Rattle.book.specs.declared.counts.Counts.{Counts}
 use Rattle.trial.specs.declared.answer.Answer.{Answer as AnswerHeld}
 use Rattle.trial.specs.declared.answer.Answer.TheVariants.{Number, Shown, Counted, Refused, NotOpened, Unknown}
 
+-- a number
 abbrev pub number_text : ℕ → List ℕ
 number_text n = decimal n ++ codes ","
 
+-- a label and its row
 abbrev pub shown_text : ℕ → Row → List ℕ
 shown_text label r = number_text label ++ row_text r
 
+-- four counts with blanks between
 abbrev pub counts_text : Counts → List ℕ
 counts_text c = decimal c.bench ++ (codes " " ++ (decimal c.hands ++ (codes " " ++ (decimal c.waiting ++ (codes " " ++ (decimal c.undrawn ++ codes ","))))))
 
+-- a refusal by its number
 abbrev pub refused_text : ℕ → List ℕ
 refused_text n = codes "refused " ++ (decimal n ++ codes ",")
 
+-- what is answered to a line that is no call
 abbrev pub unknown_text : List ℕ
 unknown_text = codes "unknown,"
 

@@ -22,6 +22,7 @@ tray = replicate 64 0
 
 -- Words
 
+-- the word that a call begins with
 abbrev pub word_of : Verb → List ℕ
 word_of verb.Take = codes "take"
 word_of verb.Printed = codes "printed"
@@ -31,6 +32,7 @@ word_of verb.Label = codes "label"
 word_of verb.Counts = codes "counts"
 word_of verb.Close = codes "close"
 
+-- the call that a word begins
 abbrev pub verb_of : List ℕ → Option Verb
 verb_of word = named_among word_of (verb.Take ∷ verb.Printed ∷ verb.Spoiled ∷ verb.Row ∷ verb.Label ∷ verb.Counts ∷ verb.Close ∷ []) word
 
@@ -59,6 +61,7 @@ bare call (field ∷ more) = None
 
 -- Calls
 
+-- the call with its fields
 abbrev pub verb_call : Verb → List (List ℕ) → Option Call
 verb_call verb.Take fields = option_map (λ printer. book.Take printer tray) (lone_number fields)
 verb_call verb.Printed fields = print_of fields
@@ -68,6 +71,7 @@ verb_call verb.Label fields = option_map book.AskLabel (scanned fields)
 verb_call verb.Counts fields = bare book.AskCounts fields
 verb_call verb.Close fields = bare book.Close fields
 
+-- the first field is the word
 abbrev pub call_of_fields : List (List ℕ) → Option Call
 call_of_fields [] = None
 call_of_fields (word ∷ fields) = and_then (verb_of word) (λ v. verb_call v fields)
@@ -81,11 +85,13 @@ abbrev pub printers_of_fields : List (List ℕ) → Option ℕ
 printers_of_fields [] = None
 printers_of_fields (word ∷ fields) = provided (bytes_eq word (codes "open")) (lone_number fields)
 
+-- the same of a line
 abbrev pub printers_of : List ℕ → Option ℕ
 printers_of line = printers_of_fields (pieces 32 line)
 
 -- How what the code holds stands to that
 
+-- a call as the code holds it
 abbrev pub meant : CallRead → Call
 meant (Take printer) = book.Take printer tray
 meant (Printed printer row) = book.Printed printer (vec_items row)

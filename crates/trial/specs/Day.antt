@@ -28,6 +28,7 @@ abbrev pub before_opening : Bool → List ℕ → ℕ
 before_opening begins [] = 0
 before_opening begins (b ∷ bs) = cond (begins && first_opens (pieces 10 (b ∷ bs))) 0 (suc (before_opening (b == 10) bs))
 
+-- how many bytes of the input are the plan
 abbrev pub plan_length : List ℕ → ℕ
 plan_length input = before_opening true input
 
@@ -36,5 +37,6 @@ abbrev pub from_plan : Result Meaning PlanFault → List ℕ → List ℕ
 from_plan (Ok m) calls = run_text m (pieces 10 calls)
 from_plan (Err fault) calls = told fault (cause_number fault.cause)
 
+-- what is written of the whole input
 abbrev pub day_text : List ℕ → List ℕ
 day_text input = from_plan (plan_of (take (plan_length input) input)) (drop (plan_length input) input)

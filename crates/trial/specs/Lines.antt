@@ -28,6 +28,7 @@ abbrev pub written : ℕ → State → List ℕ → List ℕ
 written width s [] = []
 written width s (b ∷ bs) = cond (b == 35) ((b ∷ bs) ++ codes "\n") (line_text (b ∷ bs) (answered width s (call_of (b ∷ bs))))
 
+-- what the line leaves of the book
 abbrev pub after_line : State → List ℕ → State
 after_line s [] = s
 after_line s (b ∷ bs) = cond (b == 35) s (left_by s (call_of (b ∷ bs)))
@@ -42,10 +43,12 @@ abbrev pub refused_opening : List ℕ → Option ℕ → List ℕ
 refused_opening line None = []
 refused_opening line (Some n) = line_text line (refused_text n)
 
+-- what opening the book gives, and the lines behind it
 abbrev pub from_opening : Meaning → List ℕ → Result State OpeningFault → List (List ℕ) → List ℕ
 from_opening m line (Ok s) lines = line_text line (number_text (size m)) ++ lines_text m.width s lines
 from_opening m line (Err fault) lines = refused_opening line (opening_number fault)
 
+-- the first line opens a book, or is no call
 abbrev pub trial_text : Meaning → List ℕ → Option ℕ → List (List ℕ) → List ℕ
 trial_text m line None lines = line_text line unknown_text
 trial_text m line (Some k) lines = from_opening m line (opens m k) lines

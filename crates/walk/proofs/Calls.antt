@@ -20,6 +20,7 @@ tray_begins m tray lawful some long =
     ap (take m.width) (cond-true (is_ok (reads m tray)) _ _ (ap is_ok (reads_ok m tray some long)))
     ∙ take_at (row m m.place) (drop m.width tray) m.width (lawful.wide m.place (lawful.inside.0 some))
 
+-- what a call answers that has nothing to tell
 abbrev accepted : Result (Unit {0}) Refusal
 accepted = Ok tt
 

@@ -17,6 +17,7 @@ refusal_number NoSuchRow = 6
 abbrev pub seeks : Meaning → ℕ → Result (Unit {0}) Refusal
 seeks m label = cond (nat_lt label (size m)) (Ok tt) (Err NoSuchLabel)
 
+-- the walk after a `seek`, accepted or refused
 abbrev pub after_seek : Meaning → ℕ → Meaning
 after_seek m label = cond (nat_lt label (size m)) (standing m label) m
 
@@ -24,6 +25,7 @@ after_seek m label = cond (nat_lt label (size m)) (standing m label) m
 abbrev pub backs : Meaning → Result (Unit {0}) Refusal
 backs m = cond (m.place == 0) (Err NoSuchLabel) (Ok tt)
 
+-- the walk after a `back`, accepted or refused
 abbrev pub after_back : Meaning → Meaning
 after_back m = cond (m.place == 0) m (standing m (m.place - 1))
 

@@ -10,6 +10,7 @@ pub record Meaning : Type 0 where
   pub place : ℕ
   pub steady : Bool
 
+-- the number of rows
 abbrev pub size : Meaning → ℕ
 size m = length m.rows
 

@@ -56,5 +56,6 @@ highest (x ∷ xs) (y ∷ ys) = cond (same_row xs ys) 0 (suc (highest xs ys))
 abbrev pub turned : Bool → List Row → List Row
 turned back rows = cond back (reverse rows) rows
 
+-- the number is odd
 abbrev pub odd : ℕ → Bool
 odd v = v % 2 == 1

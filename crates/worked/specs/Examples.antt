@@ -22,6 +22,7 @@ pub data Example : Type 0 where
   writes : List ℕ → List ℕ → Example
   counts : Option (List ℕ) → List ℕ → Example
 
+-- what is given is what is expected
 abbrev pub Holds : Example → Type 0
 Holds (lists walk rows) = option_map (λ (m : Meaning). m.rows) walk ≡ Some rows
 Holds (writes text expected) = text ≡ expected
@@ -54,6 +55,7 @@ answers_of walk k calls = option_and_then (λ m. option_map (answers calls) (res
 abbrev pub day : List Call
 day = Take 0 (9 ∷ []) ∷ Spoiled 0 ∷ Take 1 (9 ∷ []) ∷ Printed 1 (0 ∷ []) ∷ Take 0 (9 ∷ []) ∷ Take 1 (9 ∷ []) ∷ Close ∷ Printed 0 (2 ∷ []) ∷ Printed 1 (1 ∷ []) ∷ Close ∷ []
 
+-- each as it is printed with the rules
 abbrev pub examples : List Example
 examples =
     lists (result_ok (gray_made 2 (3 ∷ 2 ∷ []))) (printed_rows (codes "00 01 11 10 20 21")) ∷
