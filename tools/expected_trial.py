@@ -1,142 +1,22 @@
 #!/usr/bin/env python3
 """Writes what the program trial is run on, and what it must write: a week of calls on the book of a trial of 216 rows, and
-the answers that the rules give. The calls and the answers come from the simulation below, not from the library. Run it in
-the repository's root.
+the answers that the rules give. The calls and the answers come from the simulation in reference.py, not from the library. Run it
+in the repository's root.
 """
 import itertools, random
 
+from reference import Trial, changes, door, gray, join, show
+
 random = random.Random(216)
-PLAN = open('examples/bracket.plan').read().splitlines()
-MOST = 4294967295
-
-# -- the rows ------------------------------------------------------------------------------------------------------------
-def gray(radices):
-    if not radices: return [()]
-    rest = gray(radices[1:])
-    return [(a,) + r for a in range(radices[0]) for r in (rest[::-1] if a % 2 else rest)]
-
-def door(n, t):
-    if t > n: return []
-    if t == 0 or t == n: return [(0,) * n if t == 0 else (1,) * n]
-    return [(0,) + r for r in door(n - 1, t)] + [(1,) + r for r in door(n - 1, t - 1)[::-1]]
-
-def changes(n):
-    if n == 0: return [()]
-    rows = []
-    for k, row in enumerate(changes(n - 1)):
-        places = range(n) if k % 2 else range(n - 1, -1, -1)
-        rows += [row[:p] + (n - 1,) + row[p:] for p in places]
-    return rows
-
-def swing(first, second):
-    return [a + b for k, a in enumerate(first) for b in (second[::-1] if k % 2 else second)]
-
-ROWS = swing(gray([3, 2]), swing(door(4, 2), changes(3)))
-assert PLAN == ['kind,n,t,list', 'gray,2,-,3 2', 'door,4,2,-', 'changes,3,-,-']
+PLAN = open('examples/bracket.plan', 'rb').read()
+ROWS = join(gray([3, 2]), join(door(4, 2), changes(3), True), True)
+assert PLAN == b'kind,n,t,list\ngray,2,-,3 2\ndoor,4,2,-\nchanges,3,-,-\n'
 assert sorted(ROWS) == sorted(a + b + c for a in itertools.product(range(3), range(2)) for b in itertools.product(range(2), repeat=4)
     if sum(b) == 2 for c in itertools.permutations(range(3)))
 assert len(ROWS) == 216
 
-# -- the book ------------------------------------------------------------------------------------------------------------
-class Refused(Exception): pass
-
-class Book:
-    def __init__(self, printers):
-        if not 1 <= printers <= 16: raise Refused(7)
-        n = len(ROWS)
-        self.lanes = [list(range(i * n // printers, (i + 1) * n // printers)) for i in range(printers)]
-        self.hands = [None] * printers
-        self.waiting, self.bench = [], []
-    def hand(self, i):
-        if i >= len(self.hands): raise Refused(7)
-        if self.hands[i] is None: raise Refused(10)
-        return self.hands[i]
-    def take(self, i):
-        if i >= len(self.hands): raise Refused(7)
-        if self.hands[i] is not None: raise Refused(8)
-        if self.waiting: label = self.waiting.pop(0)
-        elif self.lanes[i]: label = self.lanes[i].pop(0)
-        else:
-            longest = max(self.lanes, key=len)
-            if not longest: raise Refused(9)
-            label = longest.pop()
-        self.hands[i] = label
-        return label
-    def printed(self, i, row):
-        label = self.hand(i)
-        if row not in ROWS: raise Refused(6)
-        if ROWS.index(row) != label: raise Refused(11)
-        self.hands[i] = None
-        self.bench.append(row)
-        return label
-    def spoiled(self, i):
-        label = self.hand(i)
-        self.hands[i] = None
-        self.waiting.append(label)
-        return label
-    def counts(self):
-        return [len(self.bench), sum(h is not None for h in self.hands), len(self.waiting), sum(map(len, self.lanes))]
-    def close(self):
-        if len(self.bench) < len(ROWS): raise Refused(12)
-        return len(ROWS)
-
-# -- lines ---------------------------------------------------------------------------------------------------------------
-def number(digits, most=MOST):
-    if not digits or set(digits) - set(b'0123456789') or len(digits) > 1 and digits[:1] == b'0' or int(digits) > most:
-        raise ValueError
-    return int(digits)
-
-def show(row): return ' '.join(map(str, row))
-
-def answer(book, line):
-    """The answer and the row to a line, as two texts."""
-    word, *fields = line.split(b' ')
-    def lone():
-        [field] = fields
-        return number(field)
-    def scanned(some): return tuple(number(f, 255) for f in some)
-    if word == b'take':
-        label = book.take(lone())
-        return str(label), show(ROWS[label])
-    if word == b'printed':
-        if not fields: raise ValueError
-        return str(book.printed(number(fields[0]), scanned(fields[1:]))), ''
-    if word == b'spoiled': return str(book.spoiled(lone())), ''
-    if word == b'row':
-        label = lone()
-        if label >= len(ROWS): raise Refused(4)
-        return str(label), show(ROWS[label])
-    if word == b'label':
-        row = scanned(fields)
-        if row not in ROWS: raise Refused(6)
-        return str(ROWS.index(row)), ''
-    if word == b'counts' and not fields: return show(book.counts()), ''
-    if word == b'close' and not fields: return str(book.close()), ''
-    raise ValueError
-
-class Trial:
-    def __init__(self):
-        self.read, self.write, self.book = [p.encode() for p in PLAN], [b'call,answer,row'], None
-    def say(self, line):
-        if isinstance(line, str): line = line.encode('latin-1')
-        self.read.append(line)
-        if not line: return
-        if line.startswith(b'#'):
-            self.write.append(line)
-            return
-        try:
-            if self.book is None:
-                word, k = line.split(b' ')
-                assert word == b'open'
-                self.book = Book(number(k))
-                told, row = str(len(ROWS)), ''
-            else: told, row = answer(self.book, line)
-        except Refused as refused: told, row = f'refused {refused}', ''
-        except ValueError: told, row = 'unknown', ''
-        self.write.append(line + f',{told},{row}'.encode())
-
 # -- the week ------------------------------------------------------------------------------------------------------------
-t = Trial()
+t = Trial(PLAN, ROWS)
 say = t.say
 say('open 5')
 book = t.book
