@@ -1,12 +1,12 @@
 -- The pieces of a list by its first byte of the kind that is looked for. Assumes nothing.
-use Rattle.std.proofs.Common.{◌≡◌, ◌-◌, false, ◌+◌, Some, None, eqb, position, ℕ, zero, suc, ◌<◌, List, [], ◌∷◌, length, get_or, take, drop, sym, refl, ap, ◌∙◌, subst, ⊎_elim, arith, eq-eqb, ne_eqb, add-one, eqb-true}
+use Rattle.std.proofs.Common.{◌≡◌, ◌-◌, false, ◌+◌, Some, None, eqb, position, ℕ, zero, suc, ◌<◌, List, [], ◌∷◌, ◌++◌, length, get_or, take, drop, sym, refl, ap, ◌∙◌, subst, ⊎_elim, arith, eq-eqb, ne_eqb, add-one, eqb-true}
 use Rattle.std.proofs.lemmas.Bool.{cases_Bool, cases_eq, cond-true, cond-false}
 use Rattle.std.proofs.lemmas.List.{take_rest}
 use Rattle.std.proofs.lemmas.List.Quantifiers.{position-Some}
 use Rattle.std.proofs.lemmas.Iterator.Adapters.{position_from-zero}
 use Rattle.std.specs.Str.Iter.{LacksByte}
 use Rattle.std.specs.List.{position_from, join_with_byte, AllByRecursion}
-use Rattle.text.specs.Pieces.{grown, pieces, PiecesLaws}
+use Rattle.text.specs.Pieces.{grown, pieces, PiecesLaws, CutsAgain}
 
 -- the first byte that is looked for ends the first piece
 first_cut : (at : ℕ) (bs : List ℕ) (i : ℕ) → i < length bs → get_or bs i 0 ≡ at → ((k : ℕ) → k < i → eqb (get_or bs k 0) at ≡ false) → pieces at bs ≡ take i bs ∷ pieces at (drop (suc i) bs)
@@ -41,7 +41,7 @@ rejoined_grown at b (p ∷ []) some = refl
 rejoined_grown at b (p ∷ q ∷ ps) some = refl
 
 -- another byte in front leaves a piece without it
-lacks_more : (at b : ℕ) (p : List ℕ) → (b ≡ at → ⊥) → LacksByte at p → (k : ℕ) → k < length (b ∷ p) → get_or (b ∷ p) k 0 ≡ at → ⊥
+pub lacks_more : (at b : ℕ) (p : List ℕ) → (b ≡ at → ⊥) → LacksByte at p → (k : ℕ) → k < length (b ∷ p) → get_or (b ∷ p) k 0 ≡ at → ⊥
 lacks_more at b p other clear zero h e = other e
 lacks_more at b p other clear (suc k) h e = clear k (omega arith) e
 
@@ -74,3 +74,19 @@ pieces_laws at (b ∷ bs) =
       whole = rejoined_grown at b (pieces at bs) laws.some ∙ ap (λ l. b ∷ l) laws.whole;
     }))
     (cases_eq b at)
+
+-- bytes without the byte, and then the byte: it ends the first piece
+ended_by : (at : ℕ) (p rest : List ℕ) → LacksByte at p → pieces at (p ++ (at ∷ rest)) ≡ p ∷ pieces at rest
+ended_by at [] rest clear = cond-true _ _ _ (eq-eqb at at refl)
+ended_by at (b ∷ p) rest clear = cond-false _ _ _ (ne_eqb b at (clear 0 (omega arith))) ∙ ap (grown b) (ended_by at p rest (λ k h. clear (suc k) (omega arith)))
+
+-- bytes without the byte alone are one piece
+uncut : (at : ℕ) (p : List ℕ) → LacksByte at p → pieces at p ≡ p ∷ []
+uncut at [] clear = refl
+uncut at (b ∷ p) clear = cond-false _ _ _ (ne_eqb b at (clear 0 (omega arith))) ∙ ap (grown b) (uncut at p (λ k h. clear (suc k) (omega arith)))
+
+-- what was put together of pieces is cut into them
+pub cuts_again : (at : ℕ) (ps : List (List ℕ)) → CutsAgain at ps
+cuts_again at [] some clear = absurd (omega arith)
+cuts_again at (p ∷ []) some clear = uncut at p clear.0
+cuts_again at (p ∷ q ∷ ps) some clear = ended_by at p (join_with_byte at (q ∷ ps)) clear.0 ∙ ap (λ more. p ∷ more) (cuts_again at (q ∷ ps) (omega arith) clear.1)

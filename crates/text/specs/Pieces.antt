@@ -18,3 +18,7 @@ pub record PiecesLaws (at : ℕ) (bs : List ℕ) (ps : List (List ℕ)) : Type 0
   pub some : 0 < length ps
   pub clear : AllByRecursion (LacksByte at) ps
   pub whole : join_with_byte at ps ≡ bs
+
+-- and a text that was put together of pieces without the byte is cut into these again
+abbrev pub CutsAgain : ℕ → List (List ℕ) → Type 0
+CutsAgain at ps = 0 < length ps → AllByRecursion (LacksByte at) ps → pieces at (join_with_byte at ps) ≡ ps

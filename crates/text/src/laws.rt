@@ -1,11 +1,12 @@
 // What holds of the definitions that the contracts cite.
 ghost use Rattle.std.specs.Prelude.{ℕ, List};
 ghost use Rattle.text.specs.Digits.{DecimalsLaws};
-ghost use Rattle.text.specs.Pieces.{pieces, PiecesLaws};
+ghost use Rattle.text.specs.Pieces.{pieces, PiecesLaws, CutsAgain};
 
-// The pieces of a text lack the byte that parts them, and with it between them are the text.
+// The pieces of a text lack the byte that parts them, and with it between them are the text; and no other pieces are.
 pub fn pieces_stand()
-    ensures { (at : ℕ) (bs : List ℕ) → PiecesLaws at bs (pieces at bs) }
+    ensures cut { (at : ℕ) (bs : List ℕ) → PiecesLaws at bs (pieces at bs) }
+    ensures joined { (at : ℕ) (ps : List (List ℕ)) → CutsAgain at ps }
 {}
 
 // A number's decimal digits have it as their value.
