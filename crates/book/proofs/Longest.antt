@@ -5,6 +5,7 @@ use Rattle.std.proofs.lemmas.List.{length-map}
 use Rattle.std.proofs.lemmas.List.Sums.{position_or_len_is}
 use Rattle.std.proofs.lemmas.Bool.{leb-true, leb-false, lt-ltb, eq-eqb, ne_eqb, cond-true, cond_both}
 use Rattle.book.specs.Calls.{last_of_longest}
+use Rattle.book.specs.LaneLaws.{IsLongest}
 use Rattle.book.specs.Lanes.{no_lane, lane_at, left, greatest, first_greatest, longest, longest_of}
 use Rattle.book.specs.declared.lane.Lane.{Lane}
 
@@ -56,6 +57,14 @@ longest_within lanes h = omega (arith, first_greatest_within (map left lanes) (o
 -- no lane has more labels left than the longest
 pub left_le_longest : (lanes : List Lane) (i : ℕ) → left (lane_at lanes i) ≤ left (lane_at lanes (longest lanes))
 left_le_longest lanes i = omega (arith, left_at lanes i, left_at lanes (longest lanes), get_or_le_greatest (map left lanes) i, get_or_first_greatest (map left lanes))
+
+-- it is the longest, and the first such
+pub longest_stands : (lanes : List Lane) → 0 < length lanes → IsLongest lanes (longest lanes)
+longest_stands lanes some = record {
+  inside = longest_within lanes some;
+  most = λ i h. left_le_longest lanes i;
+  first = λ i h. omega (arith, left_at lanes i, left_at lanes (longest lanes), get_or_first_greatest (map left lanes), get_or_before_greatest (map left lanes) i h);
+}
 
 -- the greatest of some numbers, one after the other
 fold_greatest : (x : ℕ) (xs : List ℕ) → fold max x xs ≡ max x (greatest xs)

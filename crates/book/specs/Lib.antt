@@ -1,5 +1,6 @@
 pub mod Calls
 pub mod Histories
+pub mod LaneLaws
 pub mod Lanes
 pub mod Opening
 pub mod Places

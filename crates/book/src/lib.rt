@@ -7,6 +7,7 @@ pub mod counts;
 pub mod draw;
 mod drawing;
 pub mod lane;
+pub mod laws;
 pub mod ledger;
 pub mod opening;
 mod printers;

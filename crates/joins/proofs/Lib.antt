@@ -1,1 +1,2 @@
 pub mod JoinCalls
+pub mod JoinedRows

@@ -17,7 +17,7 @@ module _ (swing : Bool) (rs : List Row) where
       simp (length-append, length-map, length_turned) (omega (arith, suc-mul (length ls) (length rs), length_joined (suc i) ls))
 
   -- the row j under the left row k, where the left rows have labels from i on
-  joined_from_at : (i k j : ℕ) (ls : List Row) → k < length ls → j < length rs →
+  pub joined_from_at : (i k j : ℕ) (ls : List Row) → k < length ls → j < length rs →
       row_at (joined_from swing i ls rs) (k * length rs + j) ≡ row_at ls k ++ row_at rs (mirrored (swing && odd (i + k)) (length rs) j)
   joined_from_at i k j [] lt below = absurd (omega arith)
   joined_from_at i zero j (l ∷ ls) lt below =

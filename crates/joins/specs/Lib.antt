@@ -4,3 +4,4 @@ pub mod Steps
 pub mod JoinLaws
 pub mod Joined
 pub mod Stepping
+pub mod JoinedLaws

@@ -3,4 +3,5 @@
 
 pub mod fault;
 pub mod join;
+pub mod laws;
 mod way;

@@ -2,6 +2,7 @@
 #![tactic(auto)]
 
 pub mod answers;
+pub mod laws;
 pub mod making;
 mod rows;
 
