@@ -3,8 +3,6 @@ use Rattle.std.proofs.Common.{◌≡◌, ℕ, ◌+◌, ◌-◌, ◌*◌, ◌/◌
 use Rattle.std.proofs.lemmas.Fmt.{decimal_digit, decimal_step}
 use Rattle.std.proofs.lemmas.Bool.{cases_lt, and_parts, leb-true}
 use Rattle.std.proofs.lemmas.Bool.Decides.{nat_tests}
-use Rattle.std.specs.Str.Iter.{LacksByte}
-use Rattle.text.proofs.Cuts.{lacks_more}
 use Rattle.plan.specs.Numbers.{only, digit, leading, number_value, NumbersLaws}
 
 -- the last digit of a number of two digits or more
@@ -94,23 +92,3 @@ decimal_read (a ∷ b ∷ d ∷ e ∷ more) n is = absurd (let never : ◌≡◌
 -- the numbers of a text are those below 1000, as they are written
 pub numbers_laws : NumbersLaws
 numbers_laws = record { written = read_decimal; only_so = decimal_read }
-
--- no byte of a number is below those of the digits
-pub number_lacks : (at : ℕ) (bs : List ℕ) (n : ℕ) → at < 48 → number_value bs ≡ Some n → LacksByte at bs
-number_lacks at [] n low is = λ k h. absurd (omega arith)
-number_lacks at (a ∷ []) n low is =
-    let first = digit_bounds a (only_some _ _ n is).0 in
-    lacks_more at a [] (λ e. omega arith) (λ k h. absurd (omega arith))
-number_lacks at (a ∷ b ∷ []) n low is =
-    let tests = and_parts _ _ (only_some _ _ n is).0 in
-    let first = leading_bounds a tests.0 in
-    let last = digit_bounds b tests.1 in
-    lacks_more at a (b ∷ []) (λ e. omega arith) (lacks_more at b [] (λ e. omega arith) (λ k h. absurd (omega arith)))
-number_lacks at (a ∷ b ∷ d ∷ []) n low is =
-    let tests = and_parts _ _ (only_some _ _ n is).0 in
-    let more = and_parts _ _ tests.1 in
-    let first = leading_bounds a tests.0 in
-    let second = digit_bounds b more.0 in
-    let last = digit_bounds d more.1 in
-    lacks_more at a (b ∷ d ∷ []) (λ e. omega arith) (lacks_more at b (d ∷ []) (λ e. omega arith) (lacks_more at d [] (λ e. omega arith) (λ k h. absurd (omega arith))))
-number_lacks at (a ∷ b ∷ d ∷ e ∷ more) n low is = absurd (let never : ◌≡◌ {A = ℕ} 0 1 = cc in omega arith)

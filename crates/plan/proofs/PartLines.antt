@@ -1,9 +1,9 @@
 -- The lines that write a part, and no others, are read as one. Assumes nothing.
-use Rattle.std.proofs.Common.{◌≡◌, ℕ, suc, ◌<◌, Bool, true, false, not, eqb, leb, ltb, ◌&&◌, ◌⊎◌, inl, inr, List, [], ◌∷◌, ◌++◌, map, length, is_some, Some, None, Ok, Err, decimal, Option, Result, sym, refl, ap, ◌∙◌, ⊎_elim, arith}
-use Rattle.std.proofs.lemmas.Bool.{cases_Bool, cond-true, cond-false, and_parts, leb-true, lt-ltb}
+use Rattle.std.proofs.Common.{◌≡◌, ℕ, ◌<◌, Bool, true, false, not, eqb, leb, ltb, ◌&&◌, ◌⊎◌, inl, inr, List, [], ◌∷◌, map, length, is_some, Some, None, Ok, Err, decimal, Option, Result, sym, refl, ap, ◌∙◌, arith}
+use Rattle.std.proofs.lemmas.Bool.{lt-ltb}
 use Rattle.std.proofs.lemmas.Option.{cond_some}
 use Rattle.std.proofs.lemmas.Slice.Eq.{bytes_eq-Decides}
-use Rattle.std.specs.List.{find, list_all, join_with_byte, AllByRecursion}
+use Rattle.std.specs.List.{list_all, join_with_byte, AllByRecursion}
 use Rattle.std.specs.Option.{unwrap_or, ok_or, option_map, option_to_list}
 use Rattle.std.specs.Str.{bytes_eq}
 use Rattle.std.specs.Str.Iter.{LacksByte}
@@ -12,28 +12,18 @@ use Rattle.faults.specs.declared.PartFault.{PartFault}
 use Rattle.faults.specs.declared.PartFault.TheVariants.{Form}
 use Rattle.text.specs.Pieces.{pieces}
 use Rattle.text.proofs.Cuts.{pieces_laws, cuts_again, lacks_more}
+use Rattle.text.proofs.Lacks.{high_lack, joined_lack, digits_lack}
+use Rattle.text.proofs.Names.{named_is}
 use Rattle.plan.specs.Numbers.{number_value}
 use Rattle.plan.specs.Format.{and_then, then, each, Fields, four_fields, word_of, kind_named, takes_t, takes_list, dash, t_value, entries, Head, head_with, head_of_fields, head_of_line, kind_made, making, entry_read, head_made, part_made}
 use Rattle.plan.specs.Written.{Asked, IsAsked, number_text, list_text, line_text, PartLinesLaws}
 use Rattle.plan.specs.declared.name.KindName.{KindName}
 use Rattle.plan.specs.declared.name.KindName.TheVariants.{Digits, Gray, Choose, Door, Stock, Words, Changes}
-use Rattle.plan.proofs.Decimals.{numbers_laws, number_lacks}
+use Rattle.plan.proofs.Decimals.{numbers_laws}
 
--- a number below 1000 has no comma and no blank
-decimal_lacks : (at n : ℕ) → at < 48 → n < 1000 → LacksByte at (decimal n)
-decimal_lacks at n low small = number_lacks at (decimal n) n low (numbers_laws.written n small)
-
--- nor has a dash
+-- a dash has no byte below its own
 dash_lacks : (at : ℕ) → at < 45 → LacksByte at dash
 dash_lacks at low = lacks_more at 45 [] (λ e. omega arith) (λ k h. absurd (omega arith))
-
--- bytes from 48 on have none below
-high_lack : (at : ℕ) (bs : List ℕ) → list_all (λ b. leb 48 b) bs ≡ true → at < 48 → LacksByte at bs
-high_lack at [] high low = λ k h. absurd (omega arith)
-high_lack at (b ∷ bs) high low =
-    let both = and_parts _ _ high in
-    let first = leb-true 48 b both.0 in
-    lacks_more at b bs (λ e. omega arith) (high_lack at bs both.1 low)
 
 -- the words for the kinds are letters
 word_high : (kind : KindName) → list_all (λ b. leb 48 b) (word_of kind) ≡ true
@@ -45,21 +35,10 @@ word_high Stock = refl
 word_high Words = refl
 word_high Changes = refl
 
--- two texts that lack a byte lack it together
-both_lack : (at : ℕ) (p q : List ℕ) → LacksByte at p → LacksByte at q → LacksByte at (p ++ q)
-both_lack at [] q front back = back
-both_lack at (b ∷ p) q front back = lacks_more at b (p ++ q) (front 0 (omega arith)) (both_lack at p q (λ k h. front (suc k) (omega arith)) back)
-
--- and so do texts with another byte between
-joined_lack : (at c : ℕ) (ps : List (List ℕ)) → (c ≡ at → ⊥) → AllByRecursion (LacksByte at) ps → LacksByte at (join_with_byte c ps)
-joined_lack at c [] other clear = λ k h. absurd (omega arith)
-joined_lack at c (p ∷ []) other clear = clear.0
-joined_lack at c (p ∷ q ∷ ps) other clear = both_lack at p (c ∷ join_with_byte c (q ∷ ps)) clear.0 (lacks_more at c (join_with_byte c (q ∷ ps)) other (joined_lack at c (q ∷ ps) other clear.1))
-
 -- numbers below 1000, each in its digits, lack what digits lack
 numbers_lack : (at : ℕ) (list : List ℕ) → at < 48 → AllByRecursion (λ x. x < 1000) list → AllByRecursion (LacksByte at) (map decimal list)
 numbers_lack at [] low small = tt
-numbers_lack at (x ∷ xs) low small = (decimal_lacks at x low small.0, numbers_lack at xs low small.1)
+numbers_lack at (x ∷ xs) low small = (digits_lack at x low (omega (arith, small.0)), numbers_lack at xs low small.1)
 
 -- Reading what was written
 
@@ -76,7 +55,7 @@ word_names Changes = refl
 -- the field t has no comma
 t_lacks : (t : Option ℕ) → AllByRecursion (λ x. x < 1000) (option_to_list t) → LacksByte 44 (number_text t)
 t_lacks None small = dash_lacks 44 (omega arith)
-t_lacks (Some t) small = decimal_lacks 44 t (omega arith) small.0
+t_lacks (Some t) small = digits_lack 44 t (omega arith) (omega (arith, small.0))
 
 -- nor has the list
 list_lacks : (list : List ℕ) → AllByRecursion (λ x. x < 1000) list → LacksByte 44 (list_text list)
@@ -120,7 +99,7 @@ module _ (a : Asked) (ok : IsAsked a) where
 
   -- no field has a comma
   fields_lack : AllByRecursion (LacksByte 44) (fields.kind ∷ fields.n ∷ fields.t ∷ fields.list ∷ [])
-  fields_lack = (high_lack 44 fields.kind (word_high a.kind) (omega arith), (decimal_lacks 44 a.n (omega arith) ok.small, (t_lacks a.t ok.small_t, (list_lacks a.list ok.small_list, tt))))
+  fields_lack = (high_lack 44 fields.kind (word_high a.kind) (omega arith), (digits_lack 44 a.n (omega arith) (omega (arith, ok.small)), (t_lacks a.t ok.small_t, (list_lacks a.list ok.small_list, tt))))
 
   -- the head is read
   head_written : head_of_line (line_text a) ≡ Some head
@@ -137,19 +116,9 @@ module _ (a : Asked) (ok : IsAsked a) where
 
 -- What was read was written so
 
--- what is found passes the test
-found_passes : {X : Type 0} (p : X → Bool) (xs : List X) (x : X) → find p xs ≡ Some x → p x ≡ true
-found_passes p [] x e = absurd (let never : ◌≡◌ {A = ℕ} 0 1 = cc in omega arith)
-found_passes p (y ∷ ys) x e =
-    ⊎_elim
-    (λ hit. let same : Some y ≡ Some x = sym (cond-true _ _ _ hit) ∙ e in let is : y ≡ x = cc in ap p (sym is) ∙ hit)
-    (λ other. found_passes p ys x (sym (cond-false _ _ _ other) ∙ e))
-    (cases_Bool (p y))
-
 -- nothing but its word names a kind
 word_is : (word : List ℕ) (kind : KindName) → kind_named word ≡ Some kind → word ≡ word_of kind
-word_is word kind e =
-    (bytes_eq-Decides word (word_of kind)).0 (found_passes (λ k. bytes_eq word (word_of k)) (Digits ∷ Gray ∷ Choose ∷ Door ∷ Stock ∷ Words ∷ Changes ∷ []) kind e)
+word_is word kind e = named_is word_of (Digits ∷ Gray ∷ Choose ∷ Door ∷ Stock ∷ Words ∷ Changes ∷ []) word kind e
 
 -- the four pieces of a line that has its fields
 four_is : (ps : List (List ℕ)) (f : Fields) → four_fields ps ≡ Some f → ps ≡ f.kind ∷ f.n ∷ f.t ∷ f.list ∷ []

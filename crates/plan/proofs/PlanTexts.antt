@@ -21,7 +21,7 @@ body_ended (b ∷ []) = refl
 body_ended (b ∷ c ∷ bs) = ap (option_map (λ bytes. b ∷ bytes)) (body_ended (c ∷ bs))
 
 -- what was made of a value that is there
-mapped : {X Y : Type 0} (f : X → Y) (o : Option X) (y : Y) → option_map f o ≡ Some y → (x : X) × (o ≡ Some x) × (f x ≡ y)
+pub mapped : {X Y : Type 0} (f : X → Y) (o : Option X) (y : Y) → option_map f o ≡ Some y → (x : X) × (o ≡ Some x) × (f x ≡ y)
 mapped f None y e = absurd (let never : ◌≡◌ {A = ℕ} 0 1 = cc in omega arith)
 mapped f (Some x) y e = (x, refl, cc)
 
@@ -63,12 +63,12 @@ other_first first parts other =
     (cases_Bool (bytes_eq first names))
 
 -- what a test lets through
-let_through : {X : Type 0} (test : Bool) (o : Option X) (x : X) → provided test o ≡ Some x → (test ≡ true) × (o ≡ Some x)
+pub let_through : {X : Type 0} (test : Bool) (o : Option X) (x : X) → provided test o ≡ Some x → (test ≡ true) × (o ≡ Some x)
 let_through true o x e = (refl, e)
 let_through false o x e = absurd (let never : ◌≡◌ {A = ℕ} 0 1 = cc in omega arith)
 
 -- what is made of a value was made of one that is there
-made_of : {X Y : Type 0} (o : Option X) (f : X → Option Y) (y : Y) → and_then o f ≡ Some y → (x : X) × (o ≡ Some x) × (f x ≡ Some y)
+pub made_of : {X Y : Type 0} (o : Option X) (f : X → Option Y) (y : Y) → and_then o f ≡ Some y → (x : X) × (o ≡ Some x) × (f x ≡ Some y)
 made_of None f y e = absurd (let never : ◌≡◌ {A = ℕ} 0 1 = cc in omega arith)
 made_of (Some x) f y e = (x, refl, e)
 

@@ -26,7 +26,7 @@ leading bs n zero long low writes =
     (cases_lt n 10)
 
 -- all bytes write the number that is read of them, or none
-every : (bs : List ℕ) → WrittenAs bs (number_of bs)
+pub every : (bs : List ℕ) → WrittenAs bs (number_of bs)
 every [] = λ n low writes. let e = ap length writes in omega (arith, e, decimal_nonempty n (omega arith))
 every (b ∷ []) = plain (b ∷ []) (λ _. refl) (decimal_value (b ∷ [])) refl
 every (b ∷ c ∷ bs) =

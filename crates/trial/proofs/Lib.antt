@@ -1,3 +1,4 @@
+pub mod CallLines
 pub mod Decimals
 pub mod Openings
 pub mod Scans

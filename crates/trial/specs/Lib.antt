@@ -4,3 +4,4 @@ pub mod Answers
 pub mod Lines
 pub mod Day
 pub mod Sessions
+pub mod Written

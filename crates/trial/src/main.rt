@@ -5,6 +5,7 @@
 mod answer;
 mod call;
 mod day;
+mod laws;
 mod number;
 mod run;
 mod session;
