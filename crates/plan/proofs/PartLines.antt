@@ -25,15 +25,15 @@ use Rattle.plan.proofs.Decimals.{numbers_laws}
 dash_lacks : (at : ℕ) → at < 45 → LacksByte at dash
 dash_lacks at low = lacks_more at 45 [] (λ e. omega arith) (λ k h. absurd (omega arith))
 
--- the words for the kinds are letters
-word_high : (kind : KindName) → list_all (λ b. leb 48 b) (word_of kind) ≡ true
-word_high Digits = refl
-word_high Gray = refl
-word_high Choose = refl
-word_high Door = refl
-word_high Stock = refl
-word_high Words = refl
-word_high Changes = refl
+-- the word for a kind is letters, and names it
+word_tells : (kind : KindName) → (list_all (λ b. leb 48 b) (word_of kind) ≡ true) × (kind_named (word_of kind) ≡ Some kind)
+word_tells Digits = (refl, refl)
+word_tells Gray = (refl, refl)
+word_tells Choose = (refl, refl)
+word_tells Door = (refl, refl)
+word_tells Stock = (refl, refl)
+word_tells Words = (refl, refl)
+word_tells Changes = (refl, refl)
 
 -- numbers below 1000, each in its digits, lack what digits lack
 numbers_lack : (at : ℕ) (list : List ℕ) → at < 48 → AllByRecursion (λ x. x < 1000) list → AllByRecursion (LacksByte at) (map decimal list)
@@ -41,16 +41,6 @@ numbers_lack at [] low small = tt
 numbers_lack at (x ∷ xs) low small = (digits_lack at x low (omega (arith, small.0)), numbers_lack at xs low small.1)
 
 -- Reading what was written
-
--- each word names its kind
-word_names : (kind : KindName) → kind_named (word_of kind) ≡ Some kind
-word_names Digits = refl
-word_names Gray = refl
-word_names Choose = refl
-word_names Door = refl
-word_names Stock = refl
-word_names Words = refl
-word_names Changes = refl
 
 -- the field t has no comma
 t_lacks : (t : Option ℕ) → AllByRecursion (λ x. x < 1000) (option_to_list t) → LacksByte 44 (number_text t)
@@ -99,13 +89,13 @@ module _ (a : Asked) (ok : IsAsked a) where
 
   -- no field has a comma
   fields_lack : AllByRecursion (LacksByte 44) (fields.kind ∷ fields.n ∷ fields.t ∷ fields.list ∷ [])
-  fields_lack = (high_lack 44 fields.kind (word_high a.kind) (omega arith), (digits_lack 44 a.n (omega arith) (omega (arith, ok.small)), (t_lacks a.t ok.small_t, (list_lacks a.list ok.small_list, tt))))
+  fields_lack = (high_lack 44 fields.kind (word_tells a.kind).0 (omega arith), (digits_lack 44 a.n (omega arith) (omega (arith, ok.small)), (t_lacks a.t ok.small_t, (list_lacks a.list ok.small_list, tt))))
 
   -- the head is read
   head_written : head_of_line (line_text a) ≡ Some head
   head_written =
       ap (λ ps. and_then (four_fields ps) head_of_fields) (cuts_again 44 (fields.kind ∷ fields.n ∷ fields.t ∷ fields.list ∷ []) (omega arith) fields_lack)
-      ∙ ap (λ o. and_then o (λ kind. and_then (number_value fields.n) (λ n. head_with kind n fields))) (word_names a.kind)
+      ∙ ap (λ o. and_then o (λ kind. and_then (number_value fields.n) (λ n. head_with kind n fields))) (word_tells a.kind).1
       ∙ ap (λ o. and_then o (λ n. head_with a.kind n fields)) (numbers_laws.written a.n ok.small)
       ∙ ap (λ o. and_then o (λ t. option_map (headed a.kind a.n t) (entries (takes_list a.kind && not (eqb a.n 0)) fields.list))) (t_read (takes_t a.kind) a.t ok.has_t ok.small_t)
       ∙ ap (option_map (headed a.kind a.n (unwrap_or a.t 0))) (entries_read (takes_list a.kind && not (eqb a.n 0)) a.list ok.has_list ok.small_list)
