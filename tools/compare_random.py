@@ -1,14 +1,18 @@
 #!/usr/bin/env python3
 """Runs the programs lister and trial on random plans and random days of calls, and compares what they write with reference.py.
 
-    python3 tools/compare_random.py [SEED [PLANS [DAYS]]]
+    python3 tools/compare_random.py [START [PLANS [DAYS]]]
 
-Build both first, by `rt run` in their folders. It is no part of the gate. It tells how many of each outcome came, and stops at
-the first difference."""
-import random, subprocess, sys
+START is where the random numbers begin. Build both programs first, by `rt run` in their folders. It is no part of the gate. It
+tells how many of each outcome came, and stops at the first difference."""
+import subprocess, sys
 from collections import Counter
+from random import Random
 
 from reference import Fault, Huge, Trial, listing, plan_of, show, told
+
+START, PLANS, DAYS = map(int, sys.argv[1:] + ['1', '2000', '1000'][len(sys.argv) - 1:])
+random = Random(START)
 
 KINDS = 'digits', 'gray', 'choose', 'door', 'stock', 'words', 'changes'
 ODD_NUMBERS = '00', '01', '1000', '', '-', '+1', ' 1', '32', '33', '255', '256', '999'
@@ -71,20 +75,19 @@ def compare(program, given, expected):
     if (run.stdout, run.returncode) != (expected, 0):
         sys.exit(f'{program} differs on\n{given}\nexpected\n{expected}\nand wrote, with status {run.returncode},\n{run.stdout}')
 
-def main(seed=1, plans=2000, days=1000):
-    random.seed(seed)
+def main():
     seen = Counter()
-    for _ in range(plans):
+    for _ in range(PLANS):
         text = plan(.12)
         try: expected = listing(text)
         except Huge: continue
         compare('lister', text, expected.encode())
         seen['rows' if expected[0] == 'l' else ' '.join(expected.split('\n')[1].split(',')[::2])] += 1
-    for _ in range(days):
+    for _ in range(DAYS):
         try: given, expected, done = day(plan(.01))
         except Huge: continue
         compare('trial', given, expected)
         seen['day: ' + done] += 1
     print(', '.join(f'{count} {what}' for what, count in sorted(seen.items())))
 
-main(*map(int, sys.argv[1:]))
+main()
