@@ -58,6 +58,7 @@ said (Refused e) = codes "refused " ++ decimal (refusal_number e)
 said (NotOpened fault) = fault_said (opening_number fault)
 said Unknown = codes "unknown"
 
+-- the row behind that comma, which few answers have
 abbrev pub row_shown : AnswerHeld → Row
 row_shown (Number n) = []
 row_shown (Shown label r) = vec_items r

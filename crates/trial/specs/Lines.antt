@@ -18,6 +18,7 @@ abbrev pub answered : ℕ → State → Option Call → List ℕ
 answered width s None = unknown_text
 answered width s (Some call) = told width (answer s call)
 
+-- what the call leaves
 abbrev pub left_by : State → Option Call → State
 left_by s None = s
 left_by s (Some call) = after s call

@@ -3,6 +3,7 @@ ghost use Rattle.std.specs.Prelude.{◌≡◌, ◌≤◌, length, IfSome, IfOk};
 ghost use Rattle.std.specs.List.{find, range_with_len};
 ghost use Rattle.text.specs.Pieces.{pieces};
 ghost use Rattle.trial.specs.Day.{first_opens, opens_at, plan_length, day_text};
+ghost use Rattle.trial.specs.Written.{CallLinesLaws};
 
 use super::run::run;
 use listing::tell;
@@ -45,9 +46,12 @@ fn plan_length(input: &[u8]) -> usize
     opening(input).unwrap_or(input.len())
 }
 
-// What is written of a day: its calls with their answers, or the fault of its plan.
+// What is written of a day: its calls with their answers, or the fault of its plan. A line is read as a call exactly where it
+// writes one.
+#[tactic(auto, using(crate::proofs::CallLines::call_lines_laws))]
 pub(crate) fn written(heap: Global, input: &[u8]) -> Result<Vec<u8>, AllocError>
-    ensures { IfOk result (λ v. v.items ≡ day_text input.now) }
+    ensures text { IfOk result (λ v. v.items ≡ day_text input.now) }
+    ensures lines { CallLinesLaws }
 {
     let (text, calls) = input.split_at(plan_length(input));
     match read(heap, text) {

@@ -5,7 +5,6 @@
 mod answer;
 mod call;
 mod day;
-mod laws;
 mod number;
 mod run;
 mod session;
