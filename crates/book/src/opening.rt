@@ -1,5 +1,6 @@
 // Opening a book.
 ghost use Rattle.std.specs.Prelude.{MatchResult, IfOk};
+ghost use Rattle.walk.specs.Meaning.{size};
 ghost use Rattle.book.specs.Opening.{OpensLedger, NoLedger, Opens};
 ghost use Rattle.book.specs.State.{state};
 ghost use Rattle.book.specs.WholeLife.{WholeLife};
@@ -14,12 +15,13 @@ use walk::Walk;
 use walk::making::Refused;
 
 impl Ledger {
-    // The ledger of a freshly opened book.
+    // The ledger of a freshly opened book on the walk.
     #[tactic(auto, using(crate::proofs::Starts::hands_opened, crate::proofs::Starts::undrawn_opened))]
-    fn open(rows: u32, printers: usize, heap: Global) -> Result<Ledger, OpeningFault>
-        ensures { MatchResult result (OpensLedger rows printers) (NoLedger printers) }
+    fn open<W: Walk>(walk: &W, printers: usize, heap: Global) -> Result<Ledger, OpeningFault>
+        ensures { MatchResult result (OpensLedger (size (W.Walk.meaning walk.now)) printers) (NoLedger printers) }
     {
-        let lanes = Printers::try_from(printers)?.lanes(rows, heap)?;
+        // The walk is asked for its size only once there may be so many printers.
+        let lanes = Printers::try_from(printers)?.lanes(walk.size(), heap)?;
         let waiting = VecDeque::with_capacity(heap, lanes.len())?;
         Ok(Ledger {
             lanes,
@@ -37,7 +39,7 @@ impl<W: Walk> Book<W> {
         ensures life { IfOk result (λ b. WholeLife (state W.Walk.meaning b)) }
     {
         // A match, since the walk goes into either answer: two closures could not both take it.
-        match Ledger::open(walk.size(), printers, heap) {
+        match Ledger::open(&walk, printers, heap) {
             Ok(ledger) => Ok(Book { walk, ledger }),
             Err(fault) => Err(Refused { fault, kept: walk }),
         }

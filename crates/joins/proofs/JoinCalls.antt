@@ -1,10 +1,11 @@
 -- How the calls of a join follow from those of the two walks. Assumes nothing.
-use Rattle.std.proofs.Common.{◌≡◌, ℕ, ◌+◌, ◌-◌, ◌*◌, ◌/◌, ◌%◌, ◌<◌, ◌≤◌, Bool, true, false, cond, ◌&&◌, List, [], ◌++◌, length, take, drop, is_ok, Ok, Err, sym, refl, ap, ◌∙◌, subst, ap₂, ⊎_elim, append_assoc, arith}
+use Rattle.std.proofs.Common.{◌≡◌, ℕ, ◌+◌, ◌-◌, ◌*◌, ◌/◌, ◌%◌, ◌<◌, ◌≤◌, Bool, true, false, cond, ◌&&◌, eqb, List, [], ◌++◌, length, take, drop, is_ok, Ok, Err, sym, refl, ap, ◌∙◌, subst, ap₂, ⊎_elim, append_assoc, zero-mul, arith}
 use borrow.Rule.Slice.PartMut.{put_mid}
 use Rattle.std.specs.Result.{result_unwrap_or}
+use Rattle.std.proofs.lemmas.Nat.{mul-add-lt}
 use Rattle.std.proofs.lemmas.List.{append-nil, length-append, length-drop, take_at, drop_at, take_all, drop_all, drop-drop}
 use Rattle.std.proofs.lemmas.Slice.{put_mid-paste}
-use Rattle.std.proofs.lemmas.Bool.{cond-true, cond-false, ne_eqb}
+use Rattle.std.proofs.lemmas.Bool.{both_ways, cond-true, cond-false, ne_eqb, and_right}
 use Rattle.walk.specs.Rows.{Row, odd}
 use Rattle.walk.specs.Making.{new_walk}
 use Rattle.walk.specs.Meaning.{Meaning, Lawful, size, row, standing}
@@ -12,9 +13,9 @@ use Rattle.walk.specs.Answers.{seeks, after_seek, reads, after_read, finds}
 use Rattle.walk.specs.declared.answers.Refusal.{Refusal}
 use Rattle.walk.specs.declared.answers.Refusal.TheVariants.{NoSuchLabel, NoSuchRow}
 use Rattle.joins.specs.Steps.{right_way, steps, after_step}
-use Rattle.joins.specs.Join.{mirrored, joined_label, join_size, join_of, join_place, joined}
+use Rattle.joins.specs.Join.{mirrored, joined_label, join_size, join_of, join_place, joined, join_made, unless_refused}
 use Rattle.joins.specs.declared.fault.JoinFault.{JoinFault}
-use Rattle.walk.proofs.Cases.{seek_in, read_row, found, lost, finds_label, finds_none}
+use Rattle.walk.proofs.Cases.{seek_in, read_row, first_place, found, lost, finds_label, finds_none}
 use Rattle.joins.specs.JoinLaws.{Fits, fits_cases, turns_over, join_of_size, join_of_row, join_lawful}
 use Rattle.joins.specs.Joined.{pair_divided, pair_at, label_below, factors_some}
 use Rattle.joins.specs.Stepping.{StepsTo, AtEnd, step_in, step_out, step_none, step_accepted, step_refused, odd_step, right_steps, right_ends, turned_ends, left_steps, join_ends}
@@ -26,6 +27,17 @@ pub record SomeRows (swing : Bool) (a b : Meaning) : Type 0 where
   pub some_right : 0 < size b
   pub all : size (joined swing a b) ≡ size a * size b
   pub is : joined swing a b ≡ standing (join_of swing a b) (joined_label swing (size b) a.place b.place)
+
+-- both give the same
+cond_same : (t : Bool) (x y : ℕ) → y ≡ x → cond t x y ≡ x
+cond_same true x y e = refl
+cond_same false x y e = e
+
+-- the label of a pair of rows fits 32 bits
+pub label_fits : (a b : Meaning) → is_ok (join_size a b) ≡ true → (i n k : ℕ) → n ≡ size b → i < size a → k < n → i * n + k < 4294967296
+label_fits a b ok i n k is hi hk =
+    ⊎_elim (λ fits. let few : size a * n ≤ 4294967295 = subst (λ x. size a * x ≤ 4294967295) (sym is) fits.few in omega (arith, mul-add-lt i n k (size a) hi hk))
+    (λ refused. absurd (both_ways (is_ok (join_size a b)) (ap is_ok refused.1) ok)) (fits_cases a b)
 
 -- the row at which the right walk starts again
 start_below : (down : Bool) (n : ℕ) → 0 < n → cond down (n - 1) 0 < n
@@ -62,6 +74,14 @@ module _ (swing : Bool) (a b : Meaning) where
             all = all;
             is = join_fits fits ∙ ap (standing (join_of swing a b)) (cond-false _ _ _ (ne_eqb (size a) 0 (λ e. omega (arith, each.0))));
           }
+
+  -- a join as made stands at 0
+  pub join_new : Lawful a → Lawful b → (n : ℕ) → Ok n ≡ join_size a b → join_made swing a b ≡ Ok (joined swing (after_seek a 0) (after_seek b 0))
+  join_new lawful_a lawful_b n told =
+      let first : joined_label swing (size b) 0 0 ≡ 0 = ap₂ ◌+◌ (zero-mul (size b)) (ap (λ t. mirrored t (size b) 0) (and_right swing (odd 0) refl)) in
+      let stands : joined swing (standing a 0) (standing b 0) ≡ join_of swing a b =
+      cond-true _ _ _ (sym (ap is_ok told)) ∙ ap (standing (join_of swing a b)) (cond_same (eqb (size a) 0) 0 (joined_label swing (size b) 0 0) first) in
+      ap (λ r. unless_refused r (join_of swing a b)) (sym told) ∙ ap Ok (sym (ap₂ (joined swing) (first_place a lawful_a) (first_place b lawful_b) ∙ stands))
 
   -- the labels of the two rows that stand at a label
   pub pair_of : SomeRows swing a b → (n label j : ℕ) → n ≡ size b → label < size (joined swing a b) → j ≡ mirrored (swing && odd (label / n)) (size b) (label % n) →

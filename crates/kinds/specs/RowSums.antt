@@ -1,9 +1,9 @@
 -- Rows with a sum, by the counts in their bins. Assumes nothing.
 use Rattle.std.specs.Prelude.{◌≡◌, ℕ, zero, suc, ◌+◌, ◌-◌, ◌<◌, ◌≤◌, min, Bool, true, false, not, ◌&&◌, ◌||◌, List, [], ◌∷◌, length, take, drop, replicate, sum, nat_le, slice_index, slice_index_or, refl}
-use Rattle.std.proofs.Common.{sym, ap, ap₂, subst, ◌∙◌, arith}
+use Rattle.std.proofs.Common.{sym, ap, ap₂, subst, ◌∙◌, arith, ⊎_elim}
 use Rattle.std.proofs.lemmas.List.{drop_more}
 use Rattle.std.proofs.lemmas.List.Sums.{sum_by-cons}
-use Rattle.std.proofs.lemmas.Bool.{and_parts, leb-true}
+use Rattle.std.proofs.lemmas.Bool.{and_parts, leb-true, cases_lt}
 use Rattle.walk.specs.Rows.{odd, same_row}
 use Rattle.walk.proofs.Differences.{equal_from_same}
 use Rattle.kinds.specs.Bins.{mosts, capped_ways, bins_hold, filled}
@@ -32,6 +32,11 @@ sum_taken xs t (suc v) i n at all in_range =
     let back : t - v ≡ i = omega arith in
     let split : sum (take (suc v) (drop i xs)) ≡ slice_index xs i + sum (take v (drop (i + 1) xs)) = rw (drop_more xs i 0 (omega arith)) (sum_by-cons (λ x. x) (slice_index xs i) (take v (drop (i + 1) xs))) in
     rw all (omega (arith, split, rest, ap (slice_index xs) back))
+
+-- a longer sum is no smaller
+pub total_more : (f : ℕ → ℕ) (k m : ℕ) → k ≤ m → total k f ≤ total m f
+total_more f k zero h = let e : k ≡ 0 = omega arith in rw e (omega arith)
+total_more f k (suc m) h = ⊎_elim (λ lt. omega (arith, total_more f k m (omega arith))) (λ (ge : suc m ≤ k). let e : k ≡ suc m = omega arith in rw e (omega arith)) (cases_lt k (suc m))
 
 -- stocks that are all 1
 pub ones_are : (stocks : List ℕ) → all_between 1 1 stocks ≡ true → stocks ≡ replicate (length stocks) 1

@@ -54,9 +54,9 @@ impl Node for StockNode<'_> {
 
     fn pick(&self, label: u32) -> u8 {
         let bin = &self.bins[0];
-        let left = usize::from(self.left);
-        // a larger value leaves a smaller sum to the stocks behind, so the counts are read from the last to the first
-        let counts = &bin.ways[left.saturating_sub(usize::from(bin.most))..=left];
+        // A larger value leaves a smaller sum to the stocks behind, so the counts are read from the last to the first. The label is
+        // below those of the values up to the stock together, and falls to none behind them.
+        let counts = &bin.ways[..usize::from(self.left) + 1];
         falls_in(counts.iter().rev().copied(), u64::from(label)).unwrap_or(0)
     }
 

@@ -1,10 +1,10 @@
 -- A part of a walk is a walk, and how its calls follow from those below. Assumes nothing.
 use Rattle.std.specs.Prelude.{◌≡◌, ℕ, ◌+◌, ◌-◌, ◌<◌, ◌≤◌, min, true, ◌⊎◌, List, length, Ok, Err, ◌==◌, ◌≢◌, refl}
-use Rattle.std.proofs.Common.{sym, ap, ◌∙◌, ⊎_elim, arith}
+use Rattle.std.proofs.Common.{sym, ap, ap₂, ◌∙◌, ⊎_elim, arith}
 use Rattle.std.proofs.lemmas.List.{length-take, length-drop, get_or-take, get_or-drop}
-use Rattle.std.proofs.lemmas.Bool.{cases_lt, cond-true, cond_both, eq-eqb}
+use Rattle.std.proofs.lemmas.Bool.{cases_lt, cond-true, cond-false, cond_both, eq-eqb, ne_eqb}
 use Rattle.walk.specs.Rows.{Row, differences}
-use Rattle.walk.specs.Meaning.{Meaning, Lawful, size, row}
+use Rattle.walk.specs.Meaning.{Meaning, Lawful, size, row, standing}
 use Rattle.walk.specs.Answers.{reads, after_read, finds}
 use Rattle.walk.specs.declared.answers.Refusal.{Refusal}
 use Rattle.walk.specs.declared.answers.Refusal.TheVariants.{NoSuchRow}
@@ -69,6 +69,16 @@ module _ (m : Meaning) (lawful : Lawful m) (behind ahead : ℕ) where
   part_lawful =
       piece_lawful m (cut_start behind ahead m) (cut_size behind ahead m) (cut_behind behind ahead m) cut_fits lawful
       (⊎_elim (λ some. omega arith) (λ none. omega (arith, cut_behind_none (omega arith))) (cases_lt 0 (cut_ahead ahead m)))
+
+  -- a part stands at a label where the walk below goes to that row, with so many rows behind it and the others from it on
+  pub part_standing : (label q rest : ℕ) (after : Meaning) → label < cut_size behind ahead m → q ≡ cut_start behind ahead m + label → label + rest ≡ cut_size behind ahead m →
+      after ≡ standing m q → cut label rest after ≡ standing (cut behind ahead m) label
+  part_standing label q rest after lt there all is =
+      let fits = cut_fits in
+      let on : cut_ahead rest (standing m q) ≡ rest = omega arith in
+      let off : cut_behind label rest (standing m q) ≡ label = cond-false _ _ _ (ne_eqb (cut_ahead rest (standing m q)) 0 (λ e. omega arith)) ∙ omega arith in
+      let start : q - label ≡ cut_start behind ahead m = omega arith in
+      ap (cut label rest) is ∙ ap₂ (λ b a. piece (q - b) (b + a) b m) off on ∙ ap₂ (λ from long. piece from long label m) start all
 
   -- `read` is `read` below where there are rows
   pub part_read : (tray : List ℕ) → 0 < cut_ahead ahead m → (reads (cut behind ahead m) tray ≡ reads m tray) × (after_read (cut behind ahead m) tray ≡ after_read m tray)

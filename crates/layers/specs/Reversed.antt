@@ -4,13 +4,21 @@ use Rattle.std.proofs.Common.{sym, ap, ◌∙◌, ⊎_elim, arith}
 use Rattle.std.proofs.lemmas.List.{get_or-reverse, length-reverse}
 use Rattle.std.proofs.lemmas.Bool.{cases_lt}
 use Rattle.walk.specs.Rows.{Row, differences}
-use Rattle.walk.specs.Meaning.{Meaning, Lawful, size, row}
-use Rattle.walk.specs.Answers.{reads, after_read, finds}
+use Rattle.walk.specs.Meaning.{Meaning, Lawful, size, row, standing}
+use Rattle.walk.specs.Answers.{seeks, after_seek, backs, after_back, reads, after_read, finds}
 use Rattle.walk.specs.declared.answers.Refusal.{Refusal}
 use Rattle.walk.proofs.Differences.{differences_comm}
 use Rattle.walk.proofs.Turned.{apart_reverse}
 use Rattle.layers.specs.Reverse.{reversed}
-use Rattle.walk.proofs.Cases.{read_none, read_same, found, lost, finds_label, finds_none}
+use Rattle.walk.proofs.Cases.{place_most, seek_in, seek_out, back_in, back_out, read_none, read_same, found, lost, finds_label, finds_none}
+
+-- `advance` backward is `back` below
+abbrev Advances : Meaning → Type 0
+Advances m = (seeks (reversed m) ((reversed m).place + 1) ≡ backs m) × (after_seek (reversed m) ((reversed m).place + 1) ≡ reversed (after_back m))
+
+-- `back` backward is `advance` below
+abbrev Backs : Meaning → Type 0
+Backs m = (backs (reversed m) ≡ seeks m (m.place + 1)) × (after_back (reversed m) ≡ reversed (after_seek m (m.place + 1)))
 
 -- `read` backward is `read` below
 abbrev Reads : Meaning → List ℕ → Type 0
@@ -24,6 +32,15 @@ module _ (m : Meaning) where
   -- labels count from the other end
   pub reverse_row : (i : ℕ) → i < size m → row (reversed m) i ≡ row m (size m - 1 - i)
   reverse_row i lt = get_or-reverse m.rows i [] lt
+
+  -- `seek` goes to the label counted from the other end
+  pub reverse_seek : (n label : ℕ) → n ≡ size m → label < n →
+      (seeks m (n - 1 - label) ≡ seeks (reversed m) label) × (reversed (after_seek m (n - 1 - label)) ≡ after_seek (reversed m) label)
+  reverse_seek n label all lt =
+      let below = seek_in m (n - 1 - label) (omega arith) in
+      let here = seek_in (reversed m) label (omega (arith, reverse_size)) in
+      let home : size m - 1 - (n - 1 - label) ≡ label = omega arith in
+      (below.0 ∙ sym here.0, ap reversed below.1 ∙ ap (standing (reversed m)) home ∙ sym here.1)
 
   -- a walk backward is a walk
   pub reverse_lawful : Lawful m → Lawful (reversed m)
@@ -47,6 +64,39 @@ module _ (m : Meaning) where
           rw (reverse_row i (omega arith), reverse_row (i + 1) lt, e, differences_comm (row m (k + 1)) (row m k)) (lawful.steps told k (omega arith))
 
   module _ (lawful : Lawful m) where
+    pub reverse_advance : Advances m
+    reverse_advance = ⊎_elim go stay (cases_lt 0 m.place)
+      where
+        go : 0 < m.place → Advances m
+        go lt =
+            let inside = place_most m lawful in
+            let here = seek_in (reversed m) ((reversed m).place + 1) (omega (arith, reverse_size)) in
+            let below = back_in m lt in
+            let label : (reversed m).place + 1 ≡ size m - 1 - (m.place - 1) = omega arith in
+            (here.0 ∙ sym below.0, here.1 ∙ ap (standing (reversed m)) label ∙ sym (ap reversed below.1))
+
+        stay : m.place ≤ 0 → Advances m
+        stay le =
+            let here = seek_out (reversed m) ((reversed m).place + 1) (omega (arith, reverse_size)) in
+            let below = back_out m (omega arith) in
+            (here.0 ∙ sym below.0, here.1 ∙ sym (ap reversed below.1))
+
+    pub reverse_back : Backs m
+    reverse_back = ⊎_elim go stay (cases_lt (m.place + 1) (size m))
+      where
+        go : m.place + 1 < size m → Backs m
+        go lt =
+            let here = back_in (reversed m) (omega arith) in
+            let below = seek_in m (m.place + 1) lt in
+            let label : (reversed m).place - 1 ≡ size m - 1 - (m.place + 1) = omega arith in
+            (here.0 ∙ sym below.0, here.1 ∙ ap (standing (reversed m)) label ∙ sym (ap reversed below.1))
+
+        stay : size m ≤ m.place + 1 → Backs m
+        stay le =
+            let here = back_out (reversed m) (omega arith) in
+            let below = seek_out m (m.place + 1) le in
+            (here.0 ∙ sym below.0, here.1 ∙ sym (ap reversed below.1))
+
     pub reverse_read : (tray : List ℕ) → Reads m tray
     reverse_read tray = ⊎_elim some none (cases_lt 0 (size m))
       where

@@ -6,11 +6,12 @@ use std::io;
 use std::io::Read;
 
 // One more byte than the longest text that is read: a text that has them all is too long.
-const ROOM: u64 = 4097;
+const ROOM: usize = 4097;
 
 fn main(rt: HostRuntime) -> io::Result<()> {
     let heap = rt.alloc();
-    let mut text = Vec::new(heap);
-    rt.stdin().take(ROOM).read_to_end(&mut text)?;
+    // All the room at once, so that the first read may bring the whole text: an input that comes in packets would lose the rest.
+    let mut text = Vec::with_capacity(heap, ROOM)?;
+    rt.stdin().take(ROOM as u64).read_to_end(&mut text)?;
     rt.print(report(heap, &text)?)
 }

@@ -1,5 +1,5 @@
 -- What is written, piece by piece. Assumes nothing.
-use Rattle.std.proofs.Common.{◌≡◌, ℕ, List, ◌++◌, vec_items, codes, decimal, sym, refl, ap, ◌∙◌}
+use Rattle.std.proofs.Common.{◌≡◌, ℕ, List, ◌++◌, codes, decimal, sym, refl, ap, ◌∙◌}
 use Rattle.std.proofs.lemmas.List.{append_assoc}
 use Rattle.listing.specs.Texts.{row_text}
 use Rattle.trial.specs.Answers.{answer_text, said, row_shown}
@@ -10,7 +10,7 @@ use Rattle.trial.specs.declared.answer.Answer.TheVariants.{Number, Shown, Counte
 -- what is said, a comma and the row are the answer
 answer_by_parts : (a : AnswerHeld) → said a ++ (codes "," ++ row_text (row_shown a)) ≡ answer_text a
 answer_by_parts (Number n) = refl
-answer_by_parts (Shown label r) = sym (append_assoc (decimal label) (codes ",") (row_text (vec_items r)))
+answer_by_parts (Shown label r) = sym (append_assoc (decimal label) (codes ",") (row_text r.items))
 answer_by_parts (Counted counts) = simp append_assoc
 answer_by_parts (Refused e) = refl
 answer_by_parts (NotOpened fault) = refl

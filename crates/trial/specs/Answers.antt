@@ -1,5 +1,5 @@
 -- How an answer is written: a comma stands behind it, and then its row, if it has one. Assumes nothing.
-use Rattle.std.specs.Prelude.{ℕ, List, [], ◌++◌, take, Some, None, vec_items, codes, decimal, Option}
+use Rattle.std.specs.Prelude.{ℕ, List, [], ◌++◌, take, Some, None, codes, decimal, Option}
 use Rattle.walk.specs.Rows.{Row}
 use Rattle.listing.specs.Texts.{row_text}
 use Rattle.book.specs.Histories.{Answer, number, shown, four, refusal}
@@ -43,7 +43,7 @@ fault_said (Some n) = codes "refused " ++ decimal n
 -- an answer as the code holds it
 abbrev pub answer_text : AnswerHeld → List ℕ
 answer_text (Number n) = number_text n
-answer_text (Shown label r) = shown_text label (vec_items r)
+answer_text (Shown label r) = shown_text label r.items
 answer_text (Counted counts) = counts_text counts
 answer_text (Refused e) = refused_text (refusal_number e)
 answer_text (NotOpened fault) = fault_said (opening_number fault) ++ codes ","
@@ -61,7 +61,7 @@ said Unknown = codes "unknown"
 -- the row behind that comma, which few answers have
 abbrev pub row_shown : AnswerHeld → Row
 row_shown (Number n) = []
-row_shown (Shown label r) = vec_items r
+row_shown (Shown label r) = r.items
 row_shown (Counted counts) = []
 row_shown (Refused e) = []
 row_shown (NotOpened fault) = []

@@ -4,6 +4,7 @@ ghost use Rattle.book.specs.Histories.{numbered as number_answer};
 ghost use Rattle.trial.specs.Answers.{said, row_shown, answer_text, told};
 ghost use Rattle.trial.specs.Lines.{line_text};
 
+use arrayvec::ArrayVec;
 use book::counts::Counts;
 use book::refusal::{BookRefusal, OpeningFault};
 use listing::push_row;
@@ -15,7 +16,7 @@ pub(crate) enum Answer {
     // a label, or a number of rows
     Number(u32),
     // a label and its row
-    Shown(u32, Vec<u8>),
+    Shown(u32, ArrayVec<u8, 64>),
     Counted(Counts),
     Refused(BookRefusal),
     NotOpened(OpeningFault),
@@ -64,21 +65,27 @@ impl Answer {
         ensures { result.now ≡ row_shown self.now }
     {
         match self {
-            Answer::Shown(_, row) => row,
+            Answer::Shown(_, row) => row.as_slice(),
             _ => &[],
         }
     }
 }
 
-// Appends a line with its answer.
+// Appends a line with its answer, which is put together in the room that is lent.
 #[tactic(auto, using(crate::proofs::Texts::line_pushed))]
-pub(crate) fn push_answer(out: &mut Vec<u8>, line: &[u8], answer: &Answer) -> Result<(), AllocError>
+pub(crate) fn push_answer(
+    out: &mut Vec<u8>,
+    room: &mut String,
+    line: &[u8],
+    answer: &Answer,
+) -> Result<(), AllocError>
     ensures { OnOk result (out.new.items ≡ out.old.items ++ line_text line.now (answer_text answer.now)) }
 {
-    let mut text = format!(in *out.allocator(); ",{answer},")?;
-    push_row(&mut text, answer.row())?;
-    text.push('\n')?;
+    room.clear();
+    write!(room, ",{answer},")?;
+    push_row(room, answer.row())?;
+    room.push('\n')?;
     out.extend_from_slice(line)?;
-    out.extend_from_slice(text.as_bytes())?;
+    out.extend_from_slice(room.as_bytes())?;
     Ok(())
 }

@@ -26,17 +26,24 @@ fn push_trial<W: Walk + Drop>(
     let heap = *out.allocator();
     let rows = walk.size();
     let width = walk.width();
+    let mut room = String::new(heap);
     let Some(printers) = printers(opening) else {
-        return push_answer(out, opening, &Answer::Unknown);
+        return push_answer(out, &mut room, opening, &Answer::Unknown);
     };
     match Book::open(walk, printers as usize, heap) {
         Ok(book) => {
-            push_answer(out, opening, &Answer::Number(rows))?;
-            Session { heap, book, width }.push_lines(out, lines)
+            push_answer(out, &mut room, opening, &Answer::Number(rows))?;
+            let mut session = Session {
+                heap,
+                book,
+                width,
+                room,
+            };
+            session.push_lines(out, lines)
         }
         Err(refused) => match refused.fault {
             OpeningFault::NoMemory => Err(AllocError),
-            fault => push_answer(out, opening, &Answer::NotOpened(fault)),
+            fault => push_answer(out, &mut room, opening, &Answer::NotOpened(fault)),
         },
     }
 }

@@ -1,16 +1,17 @@
 // Calls, made on a book that was opened.
-ghost use Rattle.std.specs.Prelude.{◌≡◌, ◌++◌, take, vec_items, IfOk, OnOk};
+ghost use Rattle.std.specs.Prelude.{◌≡◌, ◌++◌, IfOk, OnOk};
 ghost use Rattle.text.specs.Coming.{coming};
 ghost use Rattle.book.specs.Histories.{answer, after, showing};
 ghost use Rattle.book.specs.State.{state};
 ghost use Rattle.trial.specs.Answers.{answer_text, told};
 ghost use Rattle.trial.specs.Sessions.{Leaves};
-ghost use Rattle.trial.specs.Calls.{call_of, meant, tray as blank_tray};
+ghost use Rattle.trial.specs.Calls.{call_of, meant};
 ghost use Rattle.trial.specs.Lines.{left_by, written, after_line, lines_text};
 ghost use Rattle.trial.specs.Lines.{answered as line_answered};
 
 use super::answer::{Answer, push_answer};
 use super::call::{Call, NoCall};
+use arrayvec::ArrayVec;
 use book::book::Book;
 use book::refusal::BookRefusal;
 use std::alloc::{AllocError, Global};
@@ -23,24 +24,20 @@ pub(crate) struct Session<W> {
     pub(crate) book: Book<W>,
     // the width of the book's rows
     pub(crate) width: usize,
+    // where an answer's text is put together, line after line
+    pub(crate) room: String,
 }
 
 impl<W> Session<W> {
-    // A tray as long as the longest row of any walk.
-    fn tray(&self) -> Result<Vec<u8>, AllocError>
-        ensures { IfOk result (λ tray. vec_items tray ≡ blank_tray) }
-    {
-        vec![in self.heap; 0; 64]
-    }
-
     // A label with its row, which stands at the front of the tray, or why there is none.
-    fn showing(&self, res: Result<u32, BookRefusal>, mut tray: Vec<u8>) -> Answer
-        ensures { answer_text result ≡ told self.now.width (showing res tray.items) }
+    fn showing(&self, res: Result<u32, BookRefusal>, tray: [u8; 64]) -> Answer
+        ensures { answer_text result ≡ told self.now.width (showing res tray) }
     {
         match res {
             Ok(label) => {
-                tray.truncate(self.width);
-                Answer::Shown(label, tray)
+                let mut row = ArrayVec::from(tray);
+                row.truncate(self.width);
+                Answer::Shown(label, row)
             }
             Err(refusal) => Answer::Refused(refusal),
         }
@@ -48,27 +45,27 @@ impl<W> Session<W> {
 }
 
 impl<W: Walk> Session<W> {
-    // Makes the call on the book. `take` and `row` stand out in full: a closure over both would want their clauses again.
-    fn perform(&mut self, call: &Call) -> Result<Answer, AllocError>
-        ensures answer { IfOk result (λ a. answer_text a ≡ told self.old.width (answer (state W.Walk.meaning self.old.book) (meant call.now))) }
-        ensures after { OnOk result (Leaves W.Walk.meaning self.old self.new (after (state W.Walk.meaning self.old.book) (meant call.now))) }
+    // Makes the call on the book. `take` and `row` stand out in full: a closure over both would want their clauses again. The tray
+    // is as long as the longest row of any walk, so that no memory is asked for.
+    fn perform(&mut self, call: &Call) -> Answer
+        ensures answer { answer_text result ≡ told self.old.width (answer (state W.Walk.meaning self.old.book) (meant call.now)) }
+        ensures after { Leaves W.Walk.meaning self.old self.new (after (state W.Walk.meaning self.old.book) (meant call.now)) }
     {
+        let mut tray = [0u8; 64];
         match call {
             Call::Take(printer) => {
-                let mut tray = self.tray()?;
                 let taken = self.book.take(*printer as usize, &mut tray);
-                Ok(self.showing(taken, tray))
+                self.showing(taken, tray)
             }
-            Call::Printed(printer, row) => Ok(self.book.printed(*printer as usize, row).into()),
-            Call::Spoiled(printer) => Ok(self.book.spoiled(*printer as usize).into()),
+            Call::Printed(printer, row) => self.book.printed(*printer as usize, row).into(),
+            Call::Spoiled(printer) => self.book.spoiled(*printer as usize).into(),
             Call::Row(label) => {
-                let mut tray = self.tray()?;
                 let found = self.book.row(*label, &mut tray);
-                Ok(self.showing(found, tray))
+                self.showing(found, tray)
             }
-            Call::Label(row) => Ok(self.book.label(row).into()),
-            Call::Counts => Ok(Answer::Counted(self.book.counts())),
-            Call::Close => Ok(self.book.close().into()),
+            Call::Label(row) => self.book.label(row).into(),
+            Call::Counts => Answer::Counted(self.book.counts()),
+            Call::Close => self.book.close().into(),
         }
     }
 
@@ -78,7 +75,7 @@ impl<W: Walk> Session<W> {
         ensures after { OnOk result (Leaves W.Walk.meaning self.old self.new (left_by (state W.Walk.meaning self.old.book) (call_of line.now))) }
     {
         match Call::of(self.heap, line) {
-            Ok(call) => self.perform(&call),
+            Ok(call) => Ok(self.perform(&call)),
             Err(NoCall::Unknown) => Ok(Answer::Unknown),
             Err(NoCall::NoMemory) => Err(AllocError),
         }
@@ -95,7 +92,10 @@ impl<W: Walk> Session<W> {
                 out.extend_from_slice(line)?;
                 out.push(b'\n')?;
             }
-            _ => push_answer(out, line, &self.answered(line)?)?,
+            _ => {
+                let answer = self.answered(line)?;
+                push_answer(out, &mut self.room, line, &answer)?;
+            }
         }
         Ok(())
     }

@@ -42,6 +42,10 @@ pub read_row : (m : Meaning) (tray : List ℕ) → 0 < size m → m.width ≤ le
 read_row m tray some long =
     (reads_ok m tray some long, cond-true _ _ _ (ap is_ok (reads_ok m tray some long)))
 
+-- to go to the first row leaves a walk without rows where it is, which is 0
+pub first_place : (m : Meaning) → Lawful m → after_seek m 0 ≡ standing m 0
+first_place m lawful = ⊎_elim (λ some. (seek_in m 0 some).1) (λ none. (seek_out m 0 none).1 ∙ ap (standing m) (lawful.inside.1 (omega arith))) (cases_lt 0 (size m))
+
 -- the label of a row, with what it tells of the list
 pub record Labelled (rows : List Row) (r : Row) : Type 0 where
   pub label : ℕ

@@ -1,5 +1,7 @@
 // Label to row and row to label, shape by shape. The same nodes are made in both: one enum of them would need an `impl Node`
 // with a match in each method.
+// At `Sums` the order is written out, so that the loop over the values is compiled for each order: with the order asked for at
+// each value, a row of `choose` or `door` took a third more time.
 ghost use Rattle.std.specs.Prelude.{◌≡◌, ◌<◌, length};
 ghost use Rattle.walk.specs.Rows.{row_at, label_of};
 ghost use Rattle.kinds.specs.Shapes.{rows_of};
@@ -7,7 +9,7 @@ ghost use Rattle.kinds.specs.Shapes.{rows_of};
 use super::super::multiset::WordsNode;
 use super::super::plain_changes::{find_changes, write_changes};
 use super::super::radix::RadixNode;
-use super::super::shape::Shape;
+use super::super::shape::{Order, Shape};
 use super::super::sums::StockNode;
 use super::super::tree::{find_row, write_row};
 use super::Kind;
@@ -25,8 +27,11 @@ impl Kind {
             Shape::Radices(levels, order) => {
                 write_row(RadixNode::new(levels, *order), label, tray)
             }
-            Shape::Sums(bins, sum, order) => {
-                write_row(StockNode::new(bins, *sum, *order), label, tray)
+            Shape::Sums(bins, sum, Order::Rising) => {
+                write_row(StockNode::new(bins, *sum, Order::Rising), label, tray)
+            }
+            Shape::Sums(bins, sum, Order::Reflected) => {
+                write_row(StockNode::new(bins, *sum, Order::Reflected), label, tray)
             }
             Shape::Words(counts) => write_row(WordsNode::new(counts, self.size), label, tray),
             Shape::Changes(_) => write_changes(label, tray),
@@ -44,8 +49,11 @@ impl Kind {
         }
         match &self.shape {
             Shape::Radices(levels, order) => find_row(RadixNode::new(levels, *order), size, row),
-            Shape::Sums(bins, sum, order) => {
-                find_row(StockNode::new(bins, *sum, *order), size, row)
+            Shape::Sums(bins, sum, Order::Rising) => {
+                find_row(StockNode::new(bins, *sum, Order::Rising), size, row)
+            }
+            Shape::Sums(bins, sum, Order::Reflected) => {
+                find_row(StockNode::new(bins, *sum, Order::Reflected), size, row)
             }
             Shape::Words(counts) => find_row(WordsNode::new(counts, size), size, row),
             Shape::Changes(_) => find_changes(row),

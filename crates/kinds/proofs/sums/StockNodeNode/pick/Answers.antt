@@ -10,7 +10,6 @@ use Rattle.kinds.proofs.sums.StockNodeNode.pick.Goals as goal
 pub returns : goal.returns
 returns c =
     let self = c.args.self.now in
-    let first = c.saturating_sub.result in
     let falls = c.falls_in.ensures _ (runs_of (YieldsList-from_copied (YieldsList-at c.copied.ensures.source (YieldsList-from_rev_slice _ (ap iter_rest c.rev.ensures.source ∙ c.iter.ensures.rest))))) in
-    let begins = row_picks self c.requires.inner first (c.from-left.result + 1 - first) (omega (arith, c.saturating_sub.ensures, c.from.ensures, c.from-left.ensures)) (omega (arith, c.from-left.ensures)) c.args.label _ c.falls_in.result falls c.from-2.ensures c.requires.listed in
+    let begins = row_picks self c.requires.inner (c.from.result + 1) (omega (arith, c.from.ensures)) c.args.label _ c.falls_in.result falls c.from-2.ensures c.requires.listed in
     subst (Begins _ c.args.label) (sym c.unwrap_or.ensures) begins
