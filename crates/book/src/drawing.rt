@@ -61,7 +61,7 @@ impl Ledger {
     pub(crate) fn hands(&self) -> u32
         ensures { result ≡ hands self.now.lanes.items }
     {
-        self.lanes.iter().filter(|lane| lane.hand.is_some()).count() as u32
+        self.lanes.iter().map(|lane| u32::from(lane.hand.is_some())).sum()
     }
 
     // How many labels the lanes have left.
