@@ -61,7 +61,10 @@ impl Ledger {
     pub(crate) fn hands(&self) -> u32
         ensures { result ≡ hands self.now.lanes.items }
     {
-        self.lanes.iter().map(|lane| u32::from(lane.hand.is_some())).sum()
+        self.lanes
+            .iter()
+            .map(|lane| u32::from(lane.hand.is_some()))
+            .sum()
     }
 
     // How many labels the lanes have left.
